@@ -1,0 +1,5 @@
+pub mod LastLine
+pub mod Shown
+pub mod Clauses
+pub mod Messages
+pub mod Solving

@@ -1,0 +1,47 @@
+-- What is written of a status.
+use Rattle.std.specs.Prelude.{ℕ, Bool, true, false, List, [], ◌∷◌, ◌++◌, codes}
+use Rattle.std.specs.Fmt.{decimal}
+use Rattle.alpha.specs.declared.status.Refusal.{Refusal}
+use Rattle.alpha.specs.declared.status.Refusal.TheVariants as refusal
+use Rattle.alpha.specs.declared.status.Status.{Status}
+use Rattle.alpha.specs.declared.status.Status.TheVariants as status
+
+-- the exit code
+abbrev pub code_of : Status → ℕ
+code_of (status.Finished printed) = 0
+code_of status.Usage = 2
+code_of (status.Refused refusal) = 3
+code_of (status.TextTooLong name) = 5
+code_of (status.ReadFault name) = 6
+code_of status.WriteFault = 7
+code_of status.OutOfMemory = 9
+
+abbrev pub finished_line : ℕ → List ℕ
+finished_line printed = codes "% complete, " ++ (decimal printed ++ (codes " printed" ++ (10 ∷ [])))
+
+-- the last line on the output, where the status has one
+abbrev pub last_line_of : Status → List ℕ
+last_line_of (status.Finished printed) = finished_line printed
+last_line_of _ = []
+
+-- a text before and one after a name, and a line feed
+abbrev pub around : List ℕ → List ℕ → List ℕ → List ℕ
+around before name after = before ++ (name ++ (after ++ (10 ∷ [])))
+
+abbrev pub refusal_message : Refusal → List ℕ
+refusal_message (refusal.NotYet line) = codes "alpha: line " ++ (decimal line ++ (codes ": not built yet" ++ (10 ∷ [])))
+
+-- whether there is a message
+abbrev pub has_message : Status → Bool
+has_message (status.Finished printed) = false
+has_message _ = true
+
+-- the message, where the status has one
+abbrev pub message_of : Status → List ℕ
+message_of (status.Finished printed) = []
+message_of status.Usage = codes "alpha: usage: alpha solve [--after FILE] [--limit N] [--conflicts N] [--instances N] [--trace FILE] FILE... or alpha sample SEED N" ++ (10 ∷ [])
+message_of (status.Refused r) = refusal_message r
+message_of (status.TextTooLong name) = around (codes "alpha: ") name (codes " is too long")
+message_of (status.ReadFault name) = around (codes "alpha: cannot read ") name []
+message_of status.WriteFault = codes "alpha: cannot write" ++ (10 ∷ [])
+message_of status.OutOfMemory = codes "alpha: out of memory" ++ (10 ∷ [])

@@ -1,0 +1,9 @@
+pub mod Outside
+pub mod Files
+pub mod InMemory
+pub mod NameWrites
+pub mod NameLaws
+pub mod Nodes
+pub mod NodeLaws
+pub mod Preds
+pub mod PredLaws

@@ -1,0 +1,10 @@
+pub mod TermLemmas
+pub mod LiteralSteps
+pub mod StepLemmas
+pub mod ProgramLemmas
+pub mod ReadingLemmas
+pub mod SignLemmas
+pub mod FaultLemmas
+pub mod StandingLemmas
+pub mod NestingLemmas
+pub mod ExampleLemmas

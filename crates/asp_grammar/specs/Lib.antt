@@ -1,0 +1,11 @@
+pub mod Terminals
+pub mod Grammar
+pub mod Programs
+pub mod Machine
+pub mod Reading
+pub mod Continuations
+pub mod Nesting
+pub mod UnaryMinus
+pub mod Faults
+pub mod Examples
+pub mod Laws

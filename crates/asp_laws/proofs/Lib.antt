@@ -1,0 +1,17 @@
+pub mod Moves
+pub mod Foundations
+pub mod Small
+pub mod Arithmetic
+pub mod Values
+pub mod Lines
+pub mod Stable
+pub mod Constraints
+pub mod Extents
+pub mod Weights
+pub mod Choices
+pub mod Globals
+pub mod Counting
+pub mod ChoiceLaw
+pub mod Output
+pub mod Written
+pub mod Numerals

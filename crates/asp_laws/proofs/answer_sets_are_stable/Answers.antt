@@ -1,0 +1,11 @@
+use Rattle.asp_laws.proofs.answer_sets_are_stable.Goals as goal
+use Rattle.asp_laws.proofs.Stable.{answer_sets_are_stable, least_under_reduct, closed_under_reduct}
+
+pub returns-clause-answer_sets_are_those_of_the_reduct : goal.returns-clause-answer_sets_are_those_of_the_reduct
+returns-clause-answer_sets_are_those_of_the_reduct c = answer_sets_are_stable
+
+pub returns-clause-an_answer_set_is_least_under_its_reduct : goal.returns-clause-an_answer_set_is_least_under_its_reduct
+returns-clause-an_answer_set_is_least_under_its_reduct c = least_under_reduct
+
+pub returns-clause-an_answer_set_is_closed_under_its_reduct : goal.returns-clause-an_answer_set_is_closed_under_its_reduct
+returns-clause-an_answer_set_is_closed_under_its_reduct c = closed_under_reduct

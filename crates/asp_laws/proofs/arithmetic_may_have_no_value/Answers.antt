@@ -1,0 +1,17 @@
+use Rattle.asp_laws.proofs.arithmetic_may_have_no_value.Goals as goal
+use Rattle.asp_laws.proofs.Arithmetic.{arithmetic_without_a_value, a_statement_without_instances, no_division_by_zero, no_arithmetic_on_symbols, division_cuts_towards_zero}
+
+pub returns-clause-arithmetic_without_a_value_gives_no_instance : goal.returns-clause-arithmetic_without_a_value_gives_no_instance
+returns-clause-arithmetic_without_a_value_gives_no_instance c = arithmetic_without_a_value
+
+pub returns-clause-a_statement_without_instances_says_nothing : goal.returns-clause-a_statement_without_instances_says_nothing
+returns-clause-a_statement_without_instances_says_nothing c = a_statement_without_instances
+
+pub returns-clause-no_division_by_zero : goal.returns-clause-no_division_by_zero
+returns-clause-no_division_by_zero c = no_division_by_zero
+
+pub returns-clause-no_arithmetic_on_symbols : goal.returns-clause-no_arithmetic_on_symbols
+returns-clause-no_arithmetic_on_symbols c = no_arithmetic_on_symbols
+
+pub returns-clause-division_cuts_towards_zero : goal.returns-clause-division_cuts_towards_zero
+returns-clause-division_cuts_towards_zero c = division_cuts_towards_zero

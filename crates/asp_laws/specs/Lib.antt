@@ -1,0 +1,4 @@
+pub mod Words
+pub mod Reduct
+pub mod Examples
+pub mod Laws

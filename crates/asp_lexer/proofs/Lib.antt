@@ -1,0 +1,13 @@
+pub mod Runs
+pub mod Scans
+pub mod ByteClasses
+pub mod Ends
+pub mod Alone
+pub mod Longest
+pub mod Stands
+pub mod SkippedParts
+pub mod OneReading
+pub mod LoopTurns
+pub mod OneAnswer
+pub mod EachText
+pub mod ForParser

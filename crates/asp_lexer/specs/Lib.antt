@@ -1,0 +1,4 @@
+pub mod Tokens
+pub mod Lexing
+pub mod Answer
+pub mod Lexemes

@@ -1,0 +1,9 @@
+pub mod Terms
+pub mod Orders
+pub mod Atoms
+pub mod Variables
+pub mod Bodies
+pub mod Programs
+pub mod Lines
+pub mod Output
+pub mod Horn

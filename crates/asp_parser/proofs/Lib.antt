@@ -1,0 +1,4 @@
+pub mod Lexes
+pub mod Laws
+pub mod FromMachine
+pub mod Words

@@ -1,0 +1,4 @@
+pub mod Atoms
+pub mod AtomLaws
+pub mod Pools
+pub mod Meanings

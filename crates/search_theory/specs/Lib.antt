@@ -1,0 +1,10 @@
+pub mod Values
+pub mod Nogoods
+pub mod Instances
+pub mod Tables
+pub mod States
+pub mod Events
+pub mod Journals
+pub mod Laws
+pub mod Numberless
+pub mod Examples

@@ -1,0 +1,3 @@
+it_rains.
+take_umbrella :- it_rains,
+    not indoors.
