@@ -8,10 +8,14 @@ use Rattle.alpha_outside.specs.declared.stops.ReadStop.{ReadStop}
 use Rattle.alpha_outside.specs.declared.stops.ReadStop.TheVariants as stop
 use Rattle.alpha_outside.specs.declared.stops.SinkStop.{SinkStop}
 use Rattle.alpha_outside.specs.declared.stops.SinkStop.TheVariants as sink
+use Rattle.alpha_outside.specs.declared.stops.TraceStop.{TraceStop}
+use Rattle.alpha_outside.specs.declared.stops.TraceStop.TheVariants as trace
 use Rattle.alpha_outside.specs.declared.in_memory.Calls.{Calls}
 use Rattle.alpha_outside.specs.declared.in_memory.MemShelf.{MemShelf}
 use Rattle.alpha_outside.specs.declared.in_memory.MemSink.{MemSink}
+use Rattle.alpha_outside.specs.declared.in_memory.MemTrace.{MemTrace}
 use Rattle.alpha_outside.specs.Files.{last_file}
+use Rattle.alpha_outside.specs.Outside.{Journal}
 
 -- ---- the calls of an object, which are numbered from 0
 
@@ -89,3 +93,29 @@ pub record MemWrites (piece : List ℕ) (old new : MemSink) (result : Result (Un
   pub cut : new.cut ≡ old.cut
   pub numbered : IsNumbered old.calls new.calls (write_failed result)
   pub answer : MemWriteAnswer piece old new result
+
+-- ---- events
+
+-- the events, and the name that was given last
+abbrev pub trace_journal : MemTrace → Journal
+trace_journal t = record { events = t.events; name = t.name }
+
+-- the numbers of the calls that fail, and that of the next call
+abbrev pub trace_fails : MemTrace → List ℕ × ℕ
+trace_fails t = (t.calls.fails, t.calls.next)
+
+abbrev pub step_failed : Result (Unit {0}) TraceStop → Bool
+step_failed (Ok _) = false
+step_failed (Err trace.Failed) = true
+step_failed (Err trace.OutOfMemory) = false
+
+-- a call fails exactly where its number is one of those that fail; where it fails or has no memory, what is told is as before
+abbrev pub MemStepAnswer : (Journal → Journal) → MemTrace → MemTrace → Result (Unit {0}) TraceStop → Type 0
+MemStepAnswer step old new (Ok _) = (fails_next old.calls ≡ false) × (trace_journal new ≡ step (trace_journal old))
+MemStepAnswer step old new (Err trace.Failed) = (fails_next old.calls ≡ true) × (trace_journal new ≡ trace_journal old)
+MemStepAnswer step old new (Err trace.OutOfMemory) = (fails_next old.calls ≡ false) × (trace_journal new ≡ trace_journal old)
+
+-- a call that names the file or appends an event
+pub record MemSteps (step : Journal → Journal) (old new : MemTrace) (result : Result (Unit {0}) TraceStop) : Type 0 where
+  pub numbered : IsNumbered old.calls new.calls (step_failed result)
+  pub answer : MemStepAnswer step old new result

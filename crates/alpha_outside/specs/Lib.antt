@@ -7,3 +7,4 @@ pub mod Nodes
 pub mod NodeLaws
 pub mod Preds
 pub mod PredLaws
+pub mod Steps

@@ -1,10 +1,14 @@
-use crate::List;
+ghost use Rattle.std.specs.Prelude.{◌≡◌, IfOk};
+ghost use Rattle.alpha_outside.specs.declared.event.Event.TheVariants.{Atom, Learned};
+
 use crate::ids::{AtomId, InstId, NogoodId, TermId};
 use crate::literal::{Lit, Value};
 use crate::maker::Maker;
 use crate::node::Node;
 use crate::pattern::Pattern;
 use crate::pred::Pred;
+use crate::{List, OutOfMemory};
+use std::alloc::Global;
 
 /// How a nogood was learned.
 #[derive(Clone, Copy, Debug, PartialEq, Eq)]
@@ -95,4 +99,88 @@ pub enum Event {
     Passed {
         atoms: List<AtomId>,
     },
+}
+
+impl Event {
+    /// Another copy.
+    pub fn copy(&self, alloc: Global) -> Result<Event, OutOfMemory>
+        ensures { IfOk result (λ e. e ≡ self.now) }
+    {
+        match *self {
+            Event::Term { id, ref node } => {
+                let node = node.copy(alloc)?;
+                Ok(Event::Term { id, node })
+            }
+            Event::Atom {
+                id,
+                ref pred,
+                ref args,
+            } => copy_atom(alloc, id, pred, args.as_slice()),
+            Event::Body { id, inst } => Ok(Event::Body { id, inst }),
+            Event::Numbered { atom, number } => Ok(Event::Numbered { atom, number }),
+            Event::Made { inst, ref maker } => {
+                let maker = maker.copy(alloc)?;
+                Ok(Event::Made { inst, maker })
+            }
+            Event::Put { atom, value, by } => Ok(Event::Put { atom, value, by }),
+            Event::Chosen { body, up } => Ok(Event::Chosen { body, up }),
+            Event::Closed { atom } => Ok(Event::Closed { atom }),
+            Event::Struck { nogood } => Ok(Event::Struck { nogood }),
+            Event::Kept { nogood } => Ok(Event::Kept { nogood }),
+            Event::Learned {
+                nogood,
+                how,
+                ref lits,
+                ref cover,
+            } => copy_learned(alloc, nogood, how, lits.as_slice(), cover.as_slice()),
+            Event::Back { level } => Ok(Event::Back { level }),
+            Event::Wide { atom, count } => Ok(Event::Wide { atom, count }),
+            Event::Shown { ref atoms } => Ok(Event::Shown {
+                atoms: List::from_slice(alloc, atoms.as_slice())?,
+            }),
+            Event::Passed { ref atoms } => Ok(Event::Passed {
+                atoms: List::from_slice(alloc, atoms.as_slice())?,
+            }),
+        }
+    }
+}
+
+// An `Atom` event with copies of these.
+fn copy_atom(alloc: Global, id: AtomId, pred: &Pred, args: &[TermId]) -> Result<Event, OutOfMemory>
+    ensures { IfOk result (λ e. e ≡ Atom id pred.now args.now) }
+{
+    let pred = pred.copy(alloc)?;
+    let args = List::from_slice(alloc, args)?;
+    Ok(Event::Atom { id, pred, args })
+}
+
+// A `Learned` event with copies of these.
+fn copy_learned(
+    alloc: Global,
+    nogood: NogoodId,
+    how: How,
+    lits: &[Lit],
+    patterns: &[Pattern],
+) -> Result<Event, OutOfMemory>
+    ensures { IfOk result (λ e. e ≡ Learned nogood how lits.now patterns.now) }
+{
+    let lits = List::from_slice(alloc, lits)?;
+    let cover = copy_patterns(alloc, patterns)?;
+    Ok(Event::Learned {
+        nogood,
+        how,
+        lits,
+        cover,
+    })
+}
+
+// Copies patterns one by one.
+fn copy_patterns(alloc: Global, patterns: &[Pattern]) -> Result<List<Pattern>, OutOfMemory>
+    ensures { IfOk result (λ list. list ≡ patterns.now) }
+{
+    let mut copies = List::new(alloc);
+    for pattern in patterns {
+        copies.push(pattern.copy(alloc)?)?;
+    }
+    Ok(copies)
 }

@@ -215,6 +215,123 @@ impl Sink for MemSink {
     }
 }
 
+/// Events in memory. It tells them, and the name that was given last.
+#[derive(Drop)]
+pub struct MemTrace {
+    alloc: Global,
+    events: List<Event>,
+    name: Option<Name>,
+    calls: Calls,
+}
+
+impl MemTrace {
+    ghost use Rattle.alpha_outside.specs.InMemory.{fails_next, trace_journal, trace_fails, IsNumbered};
+    ghost use Rattle.alpha_outside.specs.Outside.{Journal, Rose, named, with_event};
+    ghost use Rattle.std.specs.Prelude.{[]};
+
+    /// A trace without events and without a name. The calls of `begin` and `note` are numbered together, and those whose numbers
+    /// are in `fails` fail.
+    pub fn new(alloc: Global, fails: List<u64>) -> MemTrace
+        ensures journal { trace_journal result ≡ record { events = []; name = None } }
+        ensures fails { trace_fails result ≡ (fails, 0) }
+    {
+        MemTrace {
+            alloc,
+            events: List::new(alloc),
+            name: None,
+            calls: Calls::new(fails),
+        }
+    }
+
+    /// Shows the events, the oldest first.
+    pub fn events(&self) -> &[Event]
+        ensures { result.now ≡ Journal.events (trace_journal self.now) }
+    {
+        self.events.as_slice()
+    }
+
+    /// Shows the name, where one was given.
+    pub fn name(&self) -> Option<&[u8]>
+        ensures { option_map (λ n. n.now) result ≡ Journal.name (trace_journal self.now) }
+    {
+        match &self.name {
+            Some(name) => Some(name.as_bytes()),
+            None => None,
+        }
+    }
+
+    // Numbers a call, and says whether it fails. One that fails is counted as a fault.
+    fn call_fails(&mut self) -> bool
+        ensures answer { result ≡ fails_next self.old.calls }
+        ensures numbered { IsNumbered self.old.calls self.new.calls result }
+        ensures journal { trace_journal self.new ≡ trace_journal self.old }
+        ensures later { self.old.calls.faults ≤ self.new.calls.faults }
+        ensures rose { IsTrue result → Rose self.old.calls.faults self.new.calls.faults }
+    {
+        let failed = self.calls.next_fails();
+        if failed {
+            self.calls.fault();
+        }
+        failed
+    }
+
+    // Takes a copy of the name.
+    fn set_name(&mut self, name: &[u8]) -> Result<(), OutOfMemory>
+        ensures ok { OnOk result (trace_journal self.new ≡ named name.now (trace_journal self.old)) }
+        ensures err { OnErr result (trace_journal self.new ≡ trace_journal self.old) }
+        ensures calls { self.new.calls ≡ self.old.calls }
+    {
+        self.name = Some(Name::from_bytes(self.alloc, name)?);
+        Ok(())
+    }
+
+    // Puts a copy of the event at the end.
+    fn push_copy(&mut self, event: &Event) -> Result<(), OutOfMemory>
+        ensures ok { OnOk result (trace_journal self.new ≡ with_event event.now (trace_journal self.old)) }
+        ensures err { OnErr result (trace_journal self.new ≡ trace_journal self.old) }
+        ensures calls { self.new.calls ≡ self.old.calls }
+    {
+        self.events.push(event.copy(self.alloc)?)?;
+        Ok(())
+    }
+}
+
+impl Trace for MemTrace {
+    ghost use Rattle.alpha_outside.specs.InMemory.{trace_journal, MemSteps};
+    ghost use Rattle.alpha_outside.specs.Outside.{Begins, Notes, named, with_event};
+
+    ghost journal = { λ t. Some (trace_journal t) };
+
+    ghost faults = { λ t. t.calls.faults };
+
+    fn begin(&mut self, name: &[u8]) -> Result<(), TraceStop>
+        ensures begins { Begins name.now (Some (trace_journal self.old)) (Some (trace_journal self.new)) self.old.calls.faults self.new.calls.faults result }
+        ensures fails { MemSteps (named name.now) self.old self.new result }
+    {
+        if self.call_fails() {
+            return Err(TraceStop::Failed);
+        }
+        match self.set_name(name) {
+            Ok(()) => Ok(()),
+            Err(_) => Err(TraceStop::OutOfMemory),
+        }
+    }
+
+    fn note(&mut self, event: &Event) -> Result<(), TraceStop>
+        ensures notes { Notes event.now (Some (trace_journal self.old)) (Some (trace_journal self.new)) self.old.calls.faults self.new.calls.faults result }
+        ensures fails { MemSteps (with_event event.now) self.old self.new result }
+    {
+        let failed = self.call_fails();
+        if failed {
+            return Err(TraceStop::Failed);
+        }
+        match self.push_copy(event) {
+            Ok(()) => Ok(()),
+            Err(_) => Err(TraceStop::OutOfMemory),
+        }
+    }
+}
+
 /// A trace that never fails and tells nothing.
 #[derive(Drop)]
 pub struct NoTrace;

@@ -23,7 +23,7 @@ mod traits;
 
 pub use event::{Event, How};
 pub use ids::{AtomId, InstId, NogoodId, PredId, TermId};
-pub use in_memory::{MemShelf, MemSink, NoTrace};
+pub use in_memory::{MemShelf, MemSink, MemTrace, NoTrace};
 pub use kinds::{ArithOp, RuleKind};
 pub use literal::{Lit, Value};
 pub use maker::{Maker, Step};

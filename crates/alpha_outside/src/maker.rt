@@ -1,5 +1,9 @@
-use crate::List;
+ghost use Rattle.std.specs.Prelude.{◌≡◌, IfOk};
+ghost use Rattle.alpha_outside.specs.Steps.{step_key};
+
 use crate::ids::TermId;
+use crate::{List, OutOfMemory};
+use std::alloc::Global;
 
 /// A step of the sum of an aggregate. `agg` is the number of the aggregate, `plus` the side (the positive weights, or the
 /// negative ones), `k` the number of a member on that side, and `key` the values of the aggregate's global variables.
@@ -57,4 +61,98 @@ pub enum Step {
 pub enum Maker {
     Rule { rule: u32, binding: List<TermId> },
     Step(Step),
+}
+
+impl Step {
+    /// Another copy.
+    pub fn copy(&self, alloc: Global) -> Result<Step, OutOfMemory>
+        ensures { IfOk result (λ s. s ≡ self.now) }
+    {
+        let key = List::from_slice(alloc, self.key().as_slice())?;
+        Ok(match *self {
+            Step::Zero { agg, plus, .. } => Step::Zero { agg, plus, key },
+            Step::Skip {
+                agg,
+                plus,
+                k,
+                sum,
+                ..
+            } => Step::Skip {
+                agg,
+                plus,
+                k,
+                sum,
+                key,
+            },
+            Step::Add {
+                agg,
+                plus,
+                k,
+                sum,
+                ..
+            } => Step::Add {
+                agg,
+                plus,
+                k,
+                sum,
+                key,
+            },
+            Step::Reach {
+                agg,
+                plus,
+                k,
+                sum,
+                ..
+            } => Step::Reach {
+                agg,
+                plus,
+                k,
+                sum,
+                key,
+            },
+            Step::Above {
+                agg,
+                plus,
+                low,
+                high,
+                ..
+            } => Step::Above {
+                agg,
+                plus,
+                low,
+                high,
+                key,
+            },
+            Step::Total { agg, up, down, .. } => Step::Total { agg, up, down, key },
+        })
+    }
+
+    // The values of the aggregate's global variables.
+    fn key(&self) -> &List<TermId>
+        ensures { result.now ≡ step_key self.now }
+    {
+        match self {
+            Step::Zero { key, .. } => key,
+            Step::Skip { key, .. } => key,
+            Step::Add { key, .. } => key,
+            Step::Reach { key, .. } => key,
+            Step::Above { key, .. } => key,
+            Step::Total { key, .. } => key,
+        }
+    }
+}
+
+impl Maker {
+    /// Another copy.
+    pub fn copy(&self, alloc: Global) -> Result<Maker, OutOfMemory>
+        ensures { IfOk result (λ m. m ≡ self.now) }
+    {
+        match self {
+            Maker::Rule { rule, binding } => Ok(Maker::Rule {
+                rule: *rule,
+                binding: List::from_slice(alloc, binding.as_slice())?,
+            }),
+            Maker::Step(step) => Ok(Maker::Step(step.copy(alloc)?)),
+        }
+    }
 }

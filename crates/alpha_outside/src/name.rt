@@ -38,6 +38,13 @@ impl Name {
         Ok(Name { bytes })
     }
 
+    /// Another copy.
+    pub fn copy(&self, alloc: Global) -> Result<Name, OutOfMemory>
+        ensures { IfOk result (λ n. n ≡ self.now) }
+    {
+        Name::from_bytes(alloc, self.as_bytes())
+    }
+
     /// Shows the bytes.
     pub fn as_bytes(&self) -> &[u8]
         ensures { result.now ≡ self.now }

@@ -1,6 +1,7 @@
 use crate::{
-    DirShelf, Event, List, MemShelf, MemSink, Name, NoTrace, NogoodId, ReadStop, Shelf, Sink,
-    SinkStop, StdSink, Trace,
+    AtomId, DirShelf, Event, How, List, Lit, Maker, MemShelf, MemSink, MemTrace, Name, NoTrace,
+    Node, NogoodId, Pattern, PatternTerm, Pred, ReadStop, Shelf, Sink, SinkStop, StdSink, Step,
+    TermId, Trace, TraceStop,
 };
 use std::alloc::Global;
 use std::test::Fail;
@@ -123,5 +124,155 @@ fn a_writer_that_takes_nothing_is_a_fault(rt: HostRuntime) -> Result<(), Fail> {
     assert_eq!(rt; sink.write(b"ab"), Ok(()));
     assert_eq!(rt; sink.write(b"cd"), Err(SinkStop::Failed));
     assert_eq!(rt; sink.write(b""), Ok(()));
+    Ok(())
+}
+
+#[test]
+fn a_trace_in_memory_fails_where_it_is_told_to(rt: HostRuntime) -> Result<(), Fail> {
+    let alloc = rt.alloc();
+    let mut trace = MemTrace::new(alloc, numbers(alloc, &[1, 2])?);
+    assert_eq!(rt; trace.note(&Event::Back { level: 4 }), Ok(()));
+    assert_eq!(rt;
+        trace.note(&Event::Back { level: 5 }),
+        Err(TraceStop::Failed)
+    );
+    assert_eq!(rt; trace.begin(b"j"), Err(TraceStop::Failed));
+    assert!(rt; trace.name().is_none());
+    assert_eq!(rt; trace.begin(b"k"), Ok(()));
+    assert_eq!(rt; trace.note(&Event::Back { level: 6 }), Ok(()));
+    assert!(rt; trace.name() == Some(b"k".as_slice()));
+    assert!(rt; levels_are(trace.events(), &[4, 6]));
+    Ok(())
+}
+
+// Whether the events are `Back` to these levels.
+fn levels_are(events: &[Event], levels: &[u32]) -> bool {
+    let mut at = 0;
+    for event in events {
+        let Event::Back { level } = event else {
+            return false;
+        };
+        if levels.get(at) != Some(level) {
+            return false;
+        }
+        at += 1;
+    }
+    at == levels.len()
+}
+
+#[test]
+fn a_name_a_node_and_a_predicate_are_copied(rt: HostRuntime) -> Result<(), Fail> {
+    let alloc = rt.alloc();
+    let name = Name::from_bytes(alloc, b"f")?;
+    let args = List::from_slice(alloc, &[TermId(3), TermId(1)])?;
+    let node = Node::Fun(name.copy(alloc)?, args);
+    let pred = Pred::User {
+        negated: true,
+        name,
+        arity: 2,
+    };
+    assert!(rt; node.copy(alloc)? == node);
+    assert!(rt; pred.copy(alloc)? == pred);
+    Ok(())
+}
+
+// Whether the maker is this step with this key.
+fn is_added(maker: &Maker, key: &[TermId]) -> bool {
+    match maker {
+        Maker::Step(
+            Step::Add {
+                agg: 1,
+                plus: false,
+                k: 2,
+                sum: -7,
+                key: copied,
+            },
+        ) => copied.as_slice() == key,
+        _ => false,
+    }
+}
+
+#[test]
+fn a_maker_is_copied(rt: HostRuntime) -> Result<(), Fail> {
+    let alloc = rt.alloc();
+    let maker = Maker::Step(Step::Add {
+        agg: 1,
+        plus: false,
+        k: 2,
+        sum: -7,
+        key: List::from_slice(alloc, &[TermId(5)])?,
+    });
+    assert!(rt; is_added(&maker.copy(alloc)?, &[TermId(5)]));
+    Ok(())
+}
+
+// The pattern q(f(_0)), but for atom 9.
+fn small_pattern(alloc: Global) -> Result<Pattern, Fail> {
+    let mut parts = List::new(alloc);
+    parts.push(PatternTerm::Hole(0))?;
+    let mut args = List::new(alloc);
+    args.push(PatternTerm::Fun(Name::from_bytes(alloc, b"f")?, parts))?;
+    Ok(Pattern {
+        pred: Pred::User {
+            negated: false,
+            name: Name::from_bytes(alloc, b"q")?,
+            arity: 1,
+        },
+        args,
+        except: List::from_slice(alloc, &[AtomId(9)])?,
+    })
+}
+
+// Whether the terms are f(_0) alone.
+fn is_small(terms: &[PatternTerm]) -> bool {
+    match terms {
+        [PatternTerm::Fun(name, parts)] => match parts.as_slice() {
+            [PatternTerm::Hole(0)] => name.as_bytes() == b"f".as_slice(),
+            _ => false,
+        },
+        _ => false,
+    }
+}
+
+#[test]
+fn a_pattern_is_copied(rt: HostRuntime) -> Result<(), Fail> {
+    let alloc = rt.alloc();
+    let pattern = small_pattern(alloc)?;
+    let copied = pattern.copy(alloc)?;
+    assert!(rt; copied.pred == pattern.pred);
+    assert!(rt; copied.except.as_slice() == pattern.except.as_slice());
+    assert!(rt; is_small(copied.args.as_slice()));
+    Ok(())
+}
+
+// Whether the event is that of this nogood with one pattern.
+fn is_learned(event: &Event) -> bool {
+    match event {
+        Event::Learned {
+            nogood: NogoodId(2),
+            how: How::Justified,
+            lits,
+            cover,
+        } => lits.len() == 1 && cover.len() == 1,
+        _ => false,
+    }
+}
+
+#[test]
+fn an_event_is_copied(rt: HostRuntime) -> Result<(), Fail> {
+    let alloc = rt.alloc();
+    let lit = Lit {
+        atom: AtomId(3),
+        positive: true,
+    };
+    let mut cover = List::new(alloc);
+    cover.push(small_pattern(alloc)?)?;
+    let event = Event::Learned {
+        nogood: NogoodId(2),
+        how: How::Justified,
+        lits: List::from_slice(alloc, &[lit])?,
+        cover,
+    };
+    assert!(rt; is_learned(&event.copy(alloc)?));
     Ok(())
 }

@@ -6,3 +6,13 @@ pub mod OrderLemmas
 pub mod SortLemmas
 pub mod LineLemmas
 pub mod TestLemmas
+pub mod MachineLemmas
+pub mod TakenLemmas
+pub mod IntegerWords
+pub mod FoundLemmas
+pub mod LeadsLemmas
+pub mod ReadTermsLemmas
+pub mod ReaderLemmas
+pub mod ReaderSteps
+pub mod TurnLemmas
+pub mod ItselfLemmas

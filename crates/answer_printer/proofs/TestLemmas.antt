@@ -1,5 +1,5 @@
 -- What a test knows of an atom that it has just added, and of two atoms that differ.
-use Rattle.std.proofs.Common.{◌≡◌, inl, inr, ℕ, ◌<◌, Bool, List, [], ◌∷◌, slice_get, Some, sym, ap, ◌∙◌}
+use Rattle.std.proofs.Common.{◌≡◌, inl, inr, ℕ, ◌<◌, Bool, List, [], ◌∷◌, slice_get, sym, ap, ◌∙◌}
 use Rattle.std.specs.Prelude.{All}
 use Rattle.lists.specs.Lists.{HasNoRepeats}
 use Rattle.alpha_outside.specs.declared.pred.Pred.TheVariants as pred

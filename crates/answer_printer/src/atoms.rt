@@ -4,16 +4,16 @@ ghost use Rattle.std.specs.Prelude.{◌≡◌, ◌++◌, ◌<◌, [], All, List,
 ghost use Rattle.alpha_outside.specs.declared.node.Node.{Node};
 ghost use Rattle.asp_meaning.specs.Lines.{atom_cmp, atom_text, call_text, each_after, sign_text, value_text};
 ghost use Rattle.asp_meaning.specs.Orders.{values_cmp};
-ghost use Rattle.term_pool.specs.Nodes.{value_at};
+ghost use Rattle.term_pool.specs.Nodes.{value_at, IsPool};
 ghost use Rattle.atom_pool.specs.Meanings.{IsBeside, atom_at};
 ghost use Rattle.answer_printer.specs.Pieces.{term_text};
 
 use crate::terms::push_term;
-use alpha_outside::{AtomId, OutOfMemory, Pred, TermId};
+use alpha_outside::{AtomId, Node, OutOfMemory, Pred, TermId};
 use atom_pool::{AtomNode, AtomPool};
 use std::alloc::Global;
 use std::cmp::Ordering;
-use term_pool::TermPool;
+use term_pool::compare_terms;
 
 /// What is printed of an atom.
 #[derive(Clone, Copy, Debug)]
@@ -62,14 +62,15 @@ pub fn parts_of(pool: &AtomPool, id: AtomId) -> AtomParts<'_>
 }
 
 // The order of two lists of arguments, from the left.
-fn compare_args(terms: &TermPool, xs: &[TermId], ys: &[TermId]) -> Ordering
+fn compare_args(terms: &[Node], xs: &[TermId], ys: &[TermId]) -> Ordering
+    requires pool { IsPool terms.now }
     requires many { length xs.now ≡ length ys.now }
     requires left { All (λ a. a < length terms.now) xs.now }
     requires right { All (λ a. a < length terms.now) ys.now }
     ensures { result ≡ values_cmp (map (value_at terms.now) xs.now) (map (value_at terms.now) ys.now) }
 {
     for place in 0..xs.len() {
-        let order = terms.compare(xs[place], ys[place]);
+        let order = compare_terms(terms, xs[place], ys[place]);
         if order != Ordering::Equal {
             return order;
         }
@@ -78,8 +79,9 @@ fn compare_args(terms: &TermPool, xs: &[TermId], ys: &[TermId]) -> Ordering
 }
 
 /// The order of two atoms: by name, number of arguments, arguments from the left, and then sign, the positive one first.
-pub fn compare_atoms(pool: &AtomPool, terms: &TermPool, a: AtomId, b: AtomId) -> Ordering
-    requires { IsBeside pool.now (length terms.now) }
+pub fn compare_atoms(pool: &AtomPool, terms: &[Node], a: AtomId, b: AtomId) -> Ordering
+    requires terms { IsPool terms.now }
+    requires beside { IsBeside pool.now (length terms.now) }
     ensures { result ≡ atom_cmp (atom_at terms.now pool.now a) (atom_at terms.now pool.now b) }
 {
     let left = parts_of(pool, a);
@@ -113,10 +115,11 @@ fn push_sign(text: &mut Vec<u8>, negated: bool) -> Result<(), OutOfMemory>
 fn push_each_after(
     alloc: Global,
     text: &mut Vec<u8>,
-    terms: &TermPool,
+    terms: &[Node],
     args: &[TermId],
 ) -> Result<(), OutOfMemory>
-    requires { All (λ a. a < length terms.now) args.now }
+    requires pool { IsPool terms.now }
+    requires args { All (λ a. a < length terms.now) args.now }
     ensures { OnOk result (text.new.items ≡ text.old.items ++ each_after (codes ",") (map (term_text terms.now) args.now)) }
 {
     for arg in args {
@@ -130,10 +133,11 @@ fn push_each_after(
 fn push_args(
     alloc: Global,
     text: &mut Vec<u8>,
-    terms: &TermPool,
+    terms: &[Node],
     args: &[TermId],
 ) -> Result<(), OutOfMemory>
-    requires { All (λ a. a < length terms.now) args.now }
+    requires pool { IsPool terms.now }
+    requires args { All (λ a. a < length terms.now) args.now }
     ensures { OnOk result (text.new.items ≡ text.old.items ++ call_text [] (map (term_text terms.now) args.now)) }
 {
     if args.is_empty() {
@@ -151,10 +155,11 @@ pub fn push_atom(
     alloc: Global,
     text: &mut Vec<u8>,
     pool: &AtomPool,
-    terms: &TermPool,
+    terms: &[Node],
     id: AtomId,
 ) -> Result<(), OutOfMemory>
-    requires { IsBeside pool.now (length terms.now) }
+    requires terms { IsPool terms.now }
+    requires beside { IsBeside pool.now (length terms.now) }
     ensures { OnOk result (text.new.items ≡ text.old.items ++ atom_text (atom_at terms.now pool.now id)) }
 {
     let AtomParts {

@@ -3,10 +3,11 @@
 ghost use Rattle.std.specs.Prelude.{◌≡◌, ◌++◌, IfOk, OnOk, codes, length, map};
 ghost use Rattle.lists.specs.Lists.{Each, HasNoRepeats};
 ghost use Rattle.asp_meaning.specs.Lines.{IsSetLine, atom_text, each_after, joined, line_of};
+ghost use Rattle.term_pool.specs.Nodes.{IsPool};
 ghost use Rattle.atom_pool.specs.Meanings.{IsBeside, IsUserAtom, atom_at};
 
 use crate::atoms::{compare_atoms, push_atom};
-use alpha_outside::{AtomId, List, OutOfMemory};
+use alpha_outside::{AtomId, List, Node, OutOfMemory};
 use atom_pool::AtomPool;
 use std::alloc::Global;
 use term_pool::TermPool;
@@ -16,10 +17,11 @@ fn push_each_after(
     alloc: Global,
     text: &mut Vec<u8>,
     pool: &AtomPool,
-    terms: &TermPool,
+    terms: &[Node],
     atoms: &[AtomId],
 ) -> Result<(), OutOfMemory>
-    requires { IsBeside pool.now (length terms.now) }
+    requires terms { IsPool terms.now }
+    requires beside { IsBeside pool.now (length terms.now) }
     ensures { OnOk result (text.new.items ≡ text.old.items ++ each_after (codes ", ") (map (λ id. atom_text (atom_at terms.now pool.now id)) atoms.now)) }
 {
     for atom in atoms {
@@ -34,10 +36,11 @@ fn push_joined(
     alloc: Global,
     text: &mut Vec<u8>,
     pool: &AtomPool,
-    terms: &TermPool,
+    terms: &[Node],
     atoms: &[AtomId],
 ) -> Result<(), OutOfMemory>
-    requires { IsBeside pool.now (length terms.now) }
+    requires terms { IsPool terms.now }
+    requires beside { IsBeside pool.now (length terms.now) }
     ensures { OnOk result (text.new.items ≡ text.old.items ++ joined (codes ", ") (map (λ id. atom_text (atom_at terms.now pool.now id)) atoms.now)) }
 {
     if atoms.is_empty() {
@@ -52,9 +55,10 @@ fn line_in_order(
     alloc: Global,
     atoms: &[AtomId],
     pool: &AtomPool,
-    terms: &TermPool,
+    terms: &[Node],
 ) -> Result<List<u8>, OutOfMemory>
-    requires { IsBeside pool.now (length terms.now) }
+    requires terms { IsPool terms.now }
+    requires beside { IsBeside pool.now (length terms.now) }
     ensures { IfOk result (λ line. line ≡ line_of (map (atom_at terms.now pool.now) atoms.now)) }
 {
     let mut text = Vec::new(alloc);
@@ -62,6 +66,26 @@ fn line_in_order(
     push_joined(alloc, &mut text, pool, terms, atoms)?;
     text.extend_from_slice(b"}\n")?;
     Ok(List::from_vec(text))
+}
+
+/// The line of a set of atoms whose terms are these nodes, with its line feed.
+pub fn set_line_of(
+    alloc: Global,
+    atoms: &[AtomId],
+    pool: &AtomPool,
+    terms: &[Node],
+) -> Result<List<u8>, OutOfMemory>
+    requires terms { IsPool terms.now }
+    requires user { Each (IsUserAtom pool.now) atoms.now }
+    requires distinct { HasNoRepeats atoms.now }
+    requires beside { IsBeside pool.now (length terms.now) }
+    ensures { IfOk result (IsSetLine (map (atom_at terms.now pool.now) atoms.now)) }
+{
+    // The length comes with what the pool promises of itself: nothing stands twice, so different ids differ in meaning.
+    let _ = pool.len();
+    let mut sorted = Vec::from_slice(alloc, atoms)?;
+    sorted.sort_unstable_by(|a, b| compare_atoms(pool, terms, *a, *b));
+    line_in_order(alloc, sorted.as_slice(), pool, terms)
 }
 
 /// The line of a set of atoms, with its line feed. It costs one sort of the ids and the line's length.
@@ -76,9 +100,5 @@ pub fn set_line(
     requires beside { IsBeside pool.now (length terms.now) }
     ensures { IfOk result (IsSetLine (map (atom_at terms.now pool.now) atoms.now)) }
 {
-    // Their lengths come with what the pools promise of themselves: nothing stands twice, so different ids differ in meaning.
-    let _ = (pool.len(), terms.len());
-    let mut sorted = Vec::from_slice(alloc, atoms)?;
-    sorted.sort_unstable_by(|a, b| compare_atoms(pool, terms, *a, *b));
-    line_in_order(alloc, sorted.as_slice(), pool, terms)
+    set_line_of(alloc, atoms, pool, terms.nodes())
 }

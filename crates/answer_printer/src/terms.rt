@@ -3,13 +3,13 @@
 
 ghost use Rattle.std.specs.Prelude.{◌≡◌, ◌++◌, ◌<◌, ◌*◌, [], ◌∷◌, length, codes, OnOk};
 ghost use Rattle.asp_meaning.specs.Lines.{integer_text, value_text};
-ghost use Rattle.term_pool.specs.Nodes.{value_at, PartsBelow};
+ghost use Rattle.term_pool.specs.Nodes.{value_at, IsPool, PartsBelow};
 ghost use Rattle.answer_printer.specs.Pieces.{pieces, AreWithin, IsWithin, IsPrinted, IsCallWritten, IsNodeWritten};
 
 use alpha_outside::{Name, Node, OutOfMemory, TermId};
 use itoa::Buffer;
 use std::alloc::Global;
-use term_pool::TermPool;
+use term_pool::node_at;
 
 /// What is left to write of a term.
 #[derive(Clone, Copy, Debug)]
@@ -90,18 +90,19 @@ fn write_node(text: &mut Vec<u8>, stack: &mut Vec<Piece>, node: &Node) -> Result
 fn write_piece(
     text: &mut Vec<u8>,
     stack: &mut Vec<Piece>,
-    terms: &TermPool,
+    terms: &[Node],
     piece: Piece,
 ) -> Result<(), OutOfMemory>
+    requires pool { IsPool terms.now }
     requires piece { IsWithin (length terms.now) piece }
     requires stack { AreWithin (length terms.now) stack.old.items }
     ensures { OnOk result (IsPrinted terms.now piece text.old.items stack.old.items text.new.items stack.new.items) }
 {
     match piece {
-        Piece::Term(id) => write_node(text, stack, terms.node(id)),
+        Piece::Term(id) => write_node(text, stack, node_at(terms, id)),
         Piece::Next(id) => {
             text.extend_from_slice(b",")?;
-            write_node(text, stack, terms.node(id))
+            write_node(text, stack, node_at(terms, id))
         }
         Piece::Close => {
             text.extend_from_slice(b")")?;
@@ -114,10 +115,11 @@ fn write_piece(
 pub fn push_term(
     alloc: Global,
     text: &mut Vec<u8>,
-    terms: &TermPool,
+    terms: &[Node],
     id: TermId,
 ) -> Result<(), OutOfMemory>
-    requires { id < length terms.now }
+    requires pool { IsPool terms.now }
+    requires id { id < length terms.now }
     ensures { OnOk result (text.new.items ≡ text.old.items ++ value_text (value_at terms.now id)) }
 {
     let mut stack = Vec::new(alloc);

@@ -1,7 +1,7 @@
 ghost use Rattle.std.specs.Prelude.{◌<◌, ◌^◌, All, IfOk, ℕ, length};
 ghost use Rattle.atom_pool.specs.Meanings.{IsBeside, IsUserAtom};
 
-use crate::set_line;
+use crate::{SetFault, read_set_line, set_line};
 use alpha_outside::{AtomId, Name, Node, Pred, TermId};
 use atom_pool::AtomPool;
 use std::alloc::Global;
@@ -78,4 +78,105 @@ fn atoms_stand_in_their_order(rt: HostRuntime) -> Result<(), Fail> {
     let p = atom(alloc, &mut atoms, &terms, false, b"p", &[minus_one])?;
     assert_line(alloc, &rt, p, q, &atoms, &terms)?;
     assert_line(alloc, &rt, q, p, &atoms, &terms)
+}
+
+// Whether the line is read, and this is its canonical line.
+fn reads_as(alloc: Global, line: &[u8], canonical: &[u8]) -> bool {
+    match read_set_line(alloc, line) {
+        Ok(read) => read.as_slice() == canonical,
+        Err(_) => false,
+    }
+}
+
+// Whether the line is refused since it is no set.
+fn is_refused(alloc: Global, line: &[u8]) -> bool {
+    match read_set_line(alloc, line) {
+        Ok(_) => false,
+        Err(fault) => fault == SetFault::NotASet,
+    }
+}
+
+#[test]
+fn blanks_order_and_repeats_do_not_matter(rt: HostRuntime) -> Result<(), Fail> {
+    let alloc = rt.alloc();
+    assert!(rt; reads_as(alloc, b"{ b , a,b }", b"{a, b}\n"));
+    assert!(rt; reads_as(alloc, b"\t{}\r ", b"{}\n"));
+    assert!(rt; reads_as(alloc, b"{- a}", b"{-a}\n"));
+    assert!(rt;
+        reads_as(
+            alloc,
+            b"{nothing( f ( -1 , \"x, y\" ) )}",
+            b"{nothing(f(-1,\"x, y\"))}\n"
+        )
+    );
+    Ok(())
+}
+
+#[test]
+fn others_are_no_sets(rt: HostRuntime) -> Result<(), Fail> {
+    let alloc = rt.alloc();
+    assert!(rt; is_refused(alloc, b"{a,}"));
+    assert!(rt; is_refused(alloc, b"{not}"));
+    assert!(rt; is_refused(alloc, b"{p()}"));
+    assert!(rt; is_refused(alloc, b"{a b}"));
+    assert!(rt; is_refused(alloc, b"{a} %"));
+    assert!(rt; is_refused(alloc, b"{a}\n"));
+    assert!(rt; is_refused(alloc, b""));
+    Ok(())
+}
+
+#[test]
+fn integers_have_one_spelling(rt: HostRuntime) -> Result<(), Fail> {
+    let alloc = rt.alloc();
+    assert!(rt; is_refused(alloc, b"{p(01)}"));
+    assert!(rt; is_refused(alloc, b"{p(- 1)}"));
+    assert!(rt; is_refused(alloc, b"{p(-0)}"));
+    assert!(rt; is_refused(alloc, b"{p(9223372036854775808)}"));
+    assert!(rt;
+        reads_as(
+            alloc,
+            b"{p(-9223372036854775808)}",
+            b"{p(-9223372036854775808)}\n"
+        )
+    );
+    Ok(())
+}
+
+#[test]
+fn values_stand_in_their_order(rt: HostRuntime) -> Result<(), Fail> {
+    let alloc = rt.alloc();
+    let line = b"{v, v(-1), -v(2), v(a), v(g), v(\"b\"), v(f(1)), v(f(0,0))}";
+    let canonical = b"{v, v(-1), -v(2), v(a), v(g), v(\"b\"), v(f(1)), v(f(0,0))}\n";
+    assert!(rt; reads_as(alloc, line, canonical));
+    assert!(rt;
+        reads_as(
+            alloc,
+            b"{v(f(1)),v(\"b\"),v(a),v(-1),v(f(0,0)),v(g),v,-v(2)}",
+            canonical
+        )
+    );
+    Ok(())
+}
+
+// Adds a piece so many times.
+fn push_many(text: &mut Vec<u8>, piece: &[u8], times: usize) -> Result<(), Fail> {
+    for _ in 0..times {
+        text.extend_from_slice(piece)?;
+    }
+    Ok(())
+}
+
+#[test]
+fn a_deep_term_reads_as_itself(rt: HostRuntime) -> Result<(), Fail> {
+    let alloc = rt.alloc();
+    let mut line = Vec::new(alloc);
+    push_many(&mut line, b"{p(", 1)?;
+    push_many(&mut line, b"f(", 100_000)?;
+    push_many(&mut line, b"0", 1)?;
+    push_many(&mut line, b")", 100_000)?;
+    push_many(&mut line, b")}", 1)?;
+    let read = read_set_line(alloc, line.as_slice());
+    line.push(b'\n')?;
+    assert!(rt; matches!(&read, Ok(canonical) if canonical.as_slice() == line.as_slice()));
+    Ok(())
 }

@@ -30,8 +30,8 @@ fn with_digit(value: u64, digit: u8) -> Option<u64>
     if next <= LARGEST { Some(next) } else { None }
 }
 
-// The number that digits are, unless it is too large.
-fn number_value(digits: &[u8]) -> Option<u64>
+/// The number that digits are, unless it is too large.
+pub fn number_value(digits: &[u8]) -> Option<u64>
     requires { list_all is_digit digits.now ≡ true }
     ensures { result ≡ fitting (decimal digits.now) }
 {

@@ -20,8 +20,8 @@ fn is_closing(previous: u8, byte: u8) -> bool
     byte == b'"' && previous != b'\\'
 }
 
-// How many bytes stand before the quote that ends a string, behind the quote that begins it.
-fn closing_quote(bytes: &[u8]) -> Option<usize>
+/// How many bytes stand before the quote that ends a string, behind the quote that begins it.
+pub fn closing_quote(bytes: &[u8]) -> Option<usize>
     ensures is { result ≡ closing_quote quote bytes.now }
     ensures within { IfSome result (λ n. n < length bytes.now) }
 {

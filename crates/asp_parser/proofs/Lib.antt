@@ -2,3 +2,6 @@ pub mod Lexes
 pub mod Laws
 pub mod FromMachine
 pub mod Words
+pub mod LoopLemmas
+pub mod AnswerLemmas
+pub mod TreeLemmas

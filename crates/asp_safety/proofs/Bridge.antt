@@ -1,5 +1,5 @@
 -- What the clauses of a statement derive is what is bound in it.
-use Rattle.std.proofs.Common.{◌≡◌, ◌⊎◌, ◌↔◌, inl, inr, refl, sym, ap, subst, ◌∙◌, ℕ, Bool, true, false, cond, List, [], ◌∷◌, ◌++◌, map, Option, Some, None}
+use Rattle.std.proofs.Common.{◌≡◌, ◌⊎◌, ◌↔◌, inl, inr, refl, sym, ap, subst, ◌∙◌, Bool, true, false, cond, List, [], ◌∷◌, map, Option, Some, None}
 use Rattle.std.specs.Prelude.{filter}
 use Rattle.lists.specs.Lists.{◌∈◌, concat}
 use Rattle.lists.proofs.ListLemmas.{∈-append_left, ∈-append_right, ∈-append_cases, ∈-map, ∈-map_from}
@@ -14,7 +14,6 @@ use Rattle.asp_syntax.specs.declared.tree.Atom as syntax
 use Rattle.asp_syntax.specs.declared.tree.Literal.{Literal}
 use Rattle.asp_syntax.specs.declared.tree.Literal.TheVariants as literal
 use Rattle.asp_syntax.specs.declared.tree.Guard.{Guard}
-use Rattle.asp_syntax.specs.declared.tree.Aggregate.{Aggregate}
 use Rattle.asp_syntax.specs.declared.tree.Item.{Item}
 use Rattle.asp_syntax.specs.declared.tree.Item.TheVariants as item
 use Rattle.asp_syntax.specs.declared.tree.Statement.{Statement}

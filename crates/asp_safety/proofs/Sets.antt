@@ -1,5 +1,5 @@
 -- Looking a variable up in a list of variables.
-use Rattle.std.proofs.Common.{◌≡◌, ◌⊎◌, ◌↔◌, inl, inr, refl, sym, ap, subst, ◌∙◌, ℕ, Bool, true, false, ◌||◌, List, [], ◌∷◌, ◌++◌, if◌then◌else◌}
+use Rattle.std.proofs.Common.{◌≡◌, ◌⊎◌, ◌↔◌, inl, inr, refl, sym, ap, subst, ◌∙◌, Bool, true, false, ◌||◌, List, [], ◌∷◌, ◌++◌, if◌then◌else◌}
 use Rattle.std.specs.List.{list_any}
 use Rattle.indexmap.specs.IndexSet.{insert_key}
 use Rattle.lists.specs.Lists.{◌∈◌}
@@ -7,7 +7,6 @@ use Rattle.lists.proofs.ListLemmas.{∈-append_left, ∈-append_right, ∈-appen
 use Rattle.asp_meaning.specs.Terms.{Variable}
 use Rattle.asp_safety.specs.Keys.{variable_eq}
 use Rattle.asp_safety.specs.KeyLaws.{variable_same, variable_equal}
-use Rattle.asp_safety.specs.ClauseLists.{is_among}
 
 -- a variable that the test finds is a member
 pub ∈-from_test : (v : Variable) (D : List Variable) → list_any (variable_eq v) D ≡ true → v ∈ D

@@ -1,36 +1,10 @@
 -- Passes over clauses, until none is ready.
-use Rattle.std.proofs.Common.{◌≡◌, ◌⊎◌, ◌↔◌, inl, inr, refl, sym, ap, subst, ◌∙◌, ℕ, ◌+◌, ◌≤◌, ◌<◌, List, [], ◌∷◌, ◌++◌, length, arith, length-append, OnOk, Result, Ok, Err}
+use Rattle.std.proofs.Common.{◌≡◌, ◌⊎◌, ◌↔◌, inl, inr, refl, sym, ap, subst, ◌∙◌, ◌+◌, List, [], ◌∷◌, ◌++◌, length, arith, length-append, OnOk, Result, Ok, Err}
 use Rattle.lists.specs.Lists.{◌∈◌, ◌⊆◌}
 use Rattle.lists.proofs.ListLemmas.{∈-append_left, ∈-append_right, ∈-append_cases}
 use Rattle.asp_meaning.specs.Terms.{Variable}
 use Rattle.asp_safety.specs.declared.clause.Clause.{Clause}
 use Rattle.asp_safety.specs.Clauses.{Derives, from_given, by_clause, IsReady, Tried, Passed}
-
--- one turn of the loop that moves variables from a list into a set
-pub moved : (whole old left set more : List Variable) (key : Variable) → old ≡ left ++ key ∷ []
-    → ((v : Variable) → (v ∈ more) ↔ ((v ∈ set) ⊎ (v ≡ key)))
-    → ((v : Variable) → ((v ∈ old) ⊎ (v ∈ set)) ↔ (v ∈ whole))
-    → (v : Variable) → ((v ∈ left) ⊎ (v ∈ more)) ↔ (v ∈ whole)
-moved whole old left set more key e add h v = (
-  λ k. (h v).0 (elim k [
-    | inl k ↦ inl (subst (λ xs. v ∈ xs) (sym e) (∈-append_left v left (key ∷ []) k))
-    | inr k ↦ elim ((add v).0 k) [ inl k ↦ inr k | inr same ↦ inl (subst (λ xs. v ∈ xs) (sym e) (∈-append_right v left (key ∷ []) (inl same))) ]
-  ]),
-  λ k. elim ((h v).1 k) [
-    | inl k ↦ elim (∈-append_cases v left (key ∷ []) (subst (λ xs. v ∈ xs) e k)) [
-      | inl k ↦ inl k
-      | inr k ↦ elim k [ inl same ↦ inr ((add v).1 (inr same)) | inr none ↦ absurd none ]
-    ]
-    | inr k ↦ inr ((add v).1 (inl k))
-  ],
-)
-
--- where none is left to be moved
-pub all_moved : (whole old set : List Variable) → old ≡ [] → ((v : Variable) → ((v ∈ old) ⊎ (v ∈ set)) ↔ (v ∈ whole)) → (v : Variable) → (v ∈ set) ↔ (v ∈ whole)
-all_moved whole old set e h v = (
-  λ k. (h v).0 (inr k),
-  λ k. elim ((h v).1 k) [ inl k ↦ absurd (subst (λ xs. v ∈ xs) e k) | inr k ↦ k ],
-)
 
 -- before the first clause is tried
 pub none_tried : (given old : List Variable) (waiting : List Clause) → Passed given old old waiting waiting []

@@ -1,15 +1,10 @@
 -- The variables of terms and statements, part by part.
-use Rattle.std.proofs.Common.{◌≡◌, refl, sym, ap, ◌∙◌, ℕ, List, [], ◌∷◌, ◌++◌, map, append_assoc}
+use Rattle.std.proofs.Common.{◌≡◌, refl, sym, ap, ◌∙◌, List, [], ◌∷◌, ◌++◌, map, append_assoc}
 use Rattle.lists.specs.Lists.{concat}
-use Rattle.asp_syntax.specs.declared.tree.Term.{Term}
-use Rattle.asp_syntax.specs.declared.tree.Term.TheVariants as tree
-use Rattle.asp_syntax.specs.declared.tree.Term.TheOpen as layer
-use Rattle.asp_syntax.specs.declared.tree.Term.TheFolds.{fold-roll-Term}
-use Rattle.asp_meaning.specs.Terms.{Variable, named, anonymous}
 use Rattle.asp_syntax.specs.declared.tree.Item.{Item}
 use Rattle.asp_syntax.specs.declared.tree.Statement.{Statement}
-use Rattle.asp_meaning.specs.Variables.{variables, variables_step, item_terms, head_terms, global_variables}
-use Rattle.asp_safety.specs.Binding.{variables_of, outside_of, outside_arithmetic, outside_step, item_variables, body_variables}
+use Rattle.asp_meaning.specs.Variables.{variables, item_terms, head_terms, global_variables}
+use Rattle.asp_safety.specs.Binding.{variables_of, item_variables, body_variables}
 
 -- what a list gives that is put together from two
 pub concat_map-append : {A B : Type 0} (f : A → List B) (xs ys : List A) → concat (map f (xs ++ ys)) ≡ concat (map f xs) ++ concat (map f ys)

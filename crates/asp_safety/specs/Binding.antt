@@ -1,6 +1,6 @@
 -- When the variables of a statement are bound, and when the statement is safe (ASP-Core-2, "Safety").
 -- A variable is global where it stands outside aggregate and choice elements; all others are local to their element.
-use Rattle.std.specs.Prelude.{◌≡◌, ◌⊎◌, ℕ, false, List, [], ◌∷◌, ◌++◌, map, Option, Some, None}
+use Rattle.std.specs.Prelude.{◌≡◌, ◌⊎◌, false, List, [], ◌∷◌, ◌++◌, map, Option, Some, None}
 use Rattle.lists.specs.Lists.{◌∈◌, Each, concat}
 use Rattle.asp_syntax.specs.declared.tree.CompareOp.TheVariants.{Equal}
 use Rattle.asp_syntax.specs.declared.tree.Term.{Term}

@@ -1,5 +1,5 @@
 -- The clauses that a statement's literals and aggregates make for its variables.
-use Rattle.std.specs.Prelude.{◌≡◌, Bool, true, false, not, List, [], ◌∷◌, ◌++◌, map, filter, Option, Some, None}
+use Rattle.std.specs.Prelude.{Bool, true, false, not, List, [], ◌∷◌, ◌++◌, map, filter, Option, Some, None}
 use Rattle.std.specs.List.{list_any}
 use Rattle.lists.specs.Lists.{concat}
 use Rattle.asp_syntax.specs.declared.tree.CompareOp.{CompareOp}
@@ -13,7 +13,6 @@ use Rattle.asp_syntax.specs.declared.tree.Guard.{Guard}
 use Rattle.asp_syntax.specs.declared.tree.Aggregate.{Aggregate}
 use Rattle.asp_syntax.specs.declared.tree.Item.{Item}
 use Rattle.asp_syntax.specs.declared.tree.Item.TheVariants as item
-use Rattle.asp_syntax.specs.declared.tree.Statement.{Statement}
 use Rattle.asp_meaning.specs.Terms.{Variable, named, anonymous}
 use Rattle.asp_meaning.specs.Variables.{variables}
 use Rattle.asp_safety.specs.declared.clause.Clause.{Clause}

@@ -1,9 +1,9 @@
 pub mod Keys
 pub mod KeyLaws
 pub mod Binding
-pub mod Recursion
 pub mod Firsts
 pub mod Clauses
 pub mod ClauseLists
 pub mod Walks
 pub mod Faults
+pub mod Checked

@@ -1,12 +1,12 @@
 -- What a walk over occurrences of variables finds.
-use Rattle.std.specs.Prelude.{◌≡◌, ◌⊎◌, ◌↔◌, ℕ, List, [], Option, Some, None}
+use Rattle.std.specs.Prelude.{◌≡◌, ◌⊎◌, ◌↔◌, ℕ, List, Option, Some, None}
 use Rattle.lists.specs.Lists.{◌∈◌, Each}
 use Rattle.asp_syntax.specs.declared.tree.Statement.{Statement}
 use Rattle.asp_meaning.specs.Terms.{Variable}
 use Rattle.asp_meaning.specs.Variables.{global_variables}
 use Rattle.asp_safety.specs.Keys.{spelled}
-use Rattle.asp_safety.specs.Binding.{Occurrence, IsBound, IsBoundThere, IsSafe}
-use Rattle.asp_safety.specs.Firsts.{IsFirstBad, FirstUnsafe}
+use Rattle.asp_safety.specs.Binding.{Occurrence, IsBound, IsBoundThere}
+use Rattle.asp_strata.specs.Firsts.{IsFirstBad}
 
 -- these are the global variables of the statement, and those of them that are bound
 pub record IsScope (s : Statement) (globals bound : List Variable) : Type 0 where

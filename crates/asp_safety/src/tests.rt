@@ -1,7 +1,8 @@
-use crate::{SafetyFault, check_variables};
+use crate::{SafetyFault, check};
 use alpha_outside::{ArithOp, Boxed, List, Name, OutOfMemory};
 use asp_syntax::{
-    AggKind, Aggregate, Atom, CompareOp, Element, Guard, Head, Item, Literal, Statement, Term,
+    AggKind, Aggregate, Atom, CompareOp, Element, Guard, Head, Item, Literal, Program, Statement,
+    Term,
 };
 use std::alloc::Global;
 use std::test::Fail;
@@ -95,11 +96,12 @@ fn finds(alloc: Global, body: List<Item>, wanted: &[u8]) -> Result<bool, OutOfMe
         head,
         body,
     })?;
-    match check_variables(alloc, statements.as_slice()) {
-        Ok(()) => Ok(wanted.is_empty()),
+    match check(alloc, Program { statements }) {
+        Ok(_) => Ok(wanted.is_empty()),
         Err(SafetyFault::Unsafe { line, variable }) => {
             Ok(line == 1 && variable.as_bytes() == wanted)
         }
+        Err(SafetyFault::AggregateRecursive { line: _, name: _ }) => Ok(false),
         Err(SafetyFault::OutOfMemory) => Err(OutOfMemory),
     }
 }

@@ -1,6 +1,7 @@
 //! Programs as they are written: tokens, and the trees that the grammar gives them.
 #![tactic(auto)]
 
+mod copies;
 mod token;
 mod tree;
 mod what;

@@ -9,6 +9,7 @@ mod interned;
 mod pool;
 
 pub use atom::AtomNode;
+pub use interned::intern;
 pub use pool::AtomPool;
 
 #[cfg(test)]

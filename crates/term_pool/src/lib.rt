@@ -8,9 +8,11 @@
 mod fault;
 mod measure;
 mod order;
+mod places;
 mod pool;
 
 pub use fault::PoolFault;
+pub use places::{compare_terms, node_at};
 pub use pool::TermPool;
 
 #[cfg(test)]

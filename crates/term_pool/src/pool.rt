@@ -12,7 +12,7 @@ ghost use Rattle.term_pool.specs.Refusals.{IsRefusal};
 
 use crate::fault::PoolFault;
 use crate::measure::{Table, add, measure_of};
-use crate::order::{NodeOrder, order_of_nodes};
+use crate::places::{compare_terms, node_at};
 use alpha_outside::{Node, TermId};
 use indexmap::IndexMap;
 use std::alloc::Global;
@@ -65,7 +65,15 @@ impl TermPool {
         ensures arguments { HasArguments result.now }
         ensures value { value_at self.now id ≡ value_from (values self.now) result.now }
     {
-        &self.table.keys().as_slice()[id.place()]
+        node_at(self.nodes(), id)
+    }
+
+    /// The nodes of all terms, each at the place that is its id.
+    pub fn nodes(&self) -> &[Node]
+        ensures nodes { result.now ≡ self.now }
+        ensures pool { IsPool self.now }
+    {
+        self.table.keys().as_slice()
     }
 
     /// The number of symbols of a term, counted as a tree.
@@ -115,17 +123,6 @@ impl TermPool {
         requires right { b < length self.now }
         ensures { result ≡ value_cmp (value_at self.now a) (value_at self.now b) }
     {
-        let _ = &self.table;
-        let mut left = a;
-        let mut right = b;
-        loop {
-            match order_of_nodes(self.node(left), self.node(right)) {
-                NodeOrder::Known(order) => return order,
-                NodeOrder::Parts(x, y) => {
-                    left = x;
-                    right = y;
-                }
-            }
-        }
+        compare_terms(self.nodes(), a, b)
     }
 }

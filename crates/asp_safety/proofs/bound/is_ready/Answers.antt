@@ -1,7 +1,6 @@
-use Rattle.std.proofs.Common.{◌≡◌, ◌⊎◌, subst, sym}
+use Rattle.std.proofs.Common.{◌⊎◌, subst, sym}
 use Rattle.lists.specs.Lists.{◌∈◌}
-use Rattle.asp_meaning.specs.Terms.{Variable}
-use Rattle.asp_safety.proofs.Loops.{drop-at, passed, stands, seen_on, all_seen}
+use Rattle.asp_strata.proofs.Loops.{drop-at, passed, stands, seen_on, all_seen}
 use Rattle.asp_safety.proofs.bound.is_ready.Goals as goal
 
 pub returns-then-not-is_met-clause-stuck : goal.returns-then-not-is_met-clause-stuck

@@ -1,4 +1,4 @@
-use Rattle.asp_safety.proofs.Settling.{moved, all_moved}
+use Rattle.asp_strata.proofs.Loops.{moved, all_moved}
 use Rattle.asp_safety.proofs.bound.set_of.Goals as goal
 
 pub moving-preserved : goal.moving-preserved

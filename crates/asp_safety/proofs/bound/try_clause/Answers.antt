@@ -1,5 +1,3 @@
-use Rattle.std.proofs.Common.{rules, inl, refl}
-use Rattle.asp_safety.specs.Clauses.{Tried}
 use Rattle.asp_safety.proofs.Settling.{fires}
 use Rattle.asp_safety.proofs.bound.try_clause.Goals as goal
 

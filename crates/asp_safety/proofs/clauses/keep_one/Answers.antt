@@ -1,4 +1,4 @@
-use Rattle.asp_safety.proofs.Loops.{on_ok}
+use Rattle.asp_strata.proofs.Loops.{on_ok}
 use Rattle.asp_safety.proofs.Settling.{push_local}
 use Rattle.asp_safety.proofs.clauses.keep_one.Goals as goal
 

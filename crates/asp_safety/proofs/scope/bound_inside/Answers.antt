@@ -2,7 +2,7 @@ use Rattle.std.proofs.Common.{◌≡◌, ◌↔◌, map, subst, rules}
 use Rattle.lists.specs.Lists.{◌∈◌, concat}
 use Rattle.asp_safety.specs.declared.clause.Clause.{Clause}
 use Rattle.asp_safety.specs.ClauseLists.{literal_clauses}
-use Rattle.asp_safety.proofs.Loops.{if_ok}
+use Rattle.asp_strata.proofs.Loops.{if_ok}
 use Rattle.asp_safety.proofs.Bridge.{inside_set}
 use Rattle.asp_safety.proofs.scope.bound_inside.Goals as goal
 

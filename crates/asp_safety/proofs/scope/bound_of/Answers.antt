@@ -1,6 +1,6 @@
 use Rattle.std.proofs.Common.{◌≡◌, [], rules}
 use Rattle.asp_safety.specs.ClauseLists.{body_clauses}
-use Rattle.asp_safety.proofs.Loops.{if_ok}
+use Rattle.asp_strata.proofs.Loops.{if_ok}
 use Rattle.asp_safety.proofs.Bridge.{bound_set}
 use Rattle.asp_safety.proofs.scope.bound_of.Goals as goal
 

@@ -1,7 +1,7 @@
 use Rattle.std.proofs.Common.{subst}
 use Rattle.asp_safety.specs.Binding.{item_occurrences}
 use Rattle.asp_safety.specs.Walks.{Finds}
-use Rattle.asp_safety.proofs.Loops.{drop-at}
+use Rattle.asp_strata.proofs.Loops.{drop-at}
 use Rattle.asp_safety.proofs.Finding.{answers_some, answers_on}
 use Rattle.asp_safety.proofs.scope.first_in_body.Goals as goal
 

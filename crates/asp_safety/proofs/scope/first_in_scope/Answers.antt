@@ -2,7 +2,7 @@ use Rattle.std.proofs.Common.{map, subst}
 use Rattle.lists.specs.Lists.{concat}
 use Rattle.asp_safety.specs.Binding.{head_occurrences, item_occurrences}
 use Rattle.asp_safety.specs.Walks.{Finds}
-use Rattle.asp_safety.proofs.Loops.{if_ok}
+use Rattle.asp_strata.proofs.Loops.{if_ok}
 use Rattle.asp_safety.proofs.Finding.{finds_right}
 use Rattle.asp_safety.proofs.scope.first_in_scope.Goals as goal
 

@@ -1,5 +1,5 @@
 use Rattle.std.proofs.Common.{Some}
-use Rattle.asp_safety.proofs.Loops.{if_ok}
+use Rattle.asp_strata.proofs.Loops.{if_ok}
 use Rattle.asp_safety.proofs.Finding.{found}
 use Rattle.asp_safety.proofs.scope.first_inside.Goals as goal
 

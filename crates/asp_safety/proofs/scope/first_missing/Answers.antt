@@ -1,6 +1,6 @@
 use Rattle.std.proofs.Common.{Some, subst, sym}
 use Rattle.asp_safety.specs.Walks.{Misses}
-use Rattle.asp_safety.proofs.Loops.{drop-at}
+use Rattle.asp_strata.proofs.Loops.{drop-at}
 use Rattle.asp_safety.proofs.Finding.{misses_here, misses_on}
 use Rattle.asp_safety.proofs.scope.first_missing.Goals as goal
 

@@ -1,5 +1,5 @@
-use Rattle.std.proofs.Common.{None, inl}
-use Rattle.asp_safety.proofs.Loops.{if_ok}
+use Rattle.std.proofs.Common.{None}
+use Rattle.asp_strata.proofs.Loops.{if_ok}
 use Rattle.asp_safety.proofs.Finding.{found, twice}
 use Rattle.asp_safety.proofs.scope.first_outside.Goals as goal
 

@@ -1,0 +1,8 @@
+pub mod Loops
+pub mod FirstBad
+pub mod Members
+pub mod TableLemmas
+pub mod GraphLemmas
+pub mod Searching
+pub mod Layering
+pub mod Stratified

@@ -1,0 +1,4 @@
+pub mod Searching
+pub mod Visits
+pub mod Moves
+pub mod Drafts

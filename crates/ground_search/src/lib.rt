@@ -1,0 +1,14 @@
+//! The state of a search for answer sets over a program's instances.
+//!
+//! Contracts see a search as a state of the search's theory: each step is one event, and each look at the state answers a question
+//! of the theory. What follows what, and why that is right, is the enumerator's.
+#![tactic(auto)]
+
+mod draft;
+mod finding;
+mod search;
+mod visit;
+
+pub use finding::Finding;
+pub use search::{Row, Search, Stage};
+pub use visit::{Visit, look_at};

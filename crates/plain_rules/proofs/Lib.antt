@@ -1,0 +1,4 @@
+pub mod Statements
+pub mod Sets
+pub mod SetLines
+pub mod Named
