@@ -1,3 +1,3 @@
 it_rains.
-take_umbrella :- it_rains,
+take(umbrella) :- it_rains,
     not indoors.

@@ -1,171 +1,226 @@
 -- The promises of a run, from what its work came to.
-use Rattle.std.proofs.Common.{◌≡◌, ◌<◌, ◌⊎◌, inl, inr, refl, sym, subst, ℕ, true, List, [], length, Option, Some, None, arith}
-use Rattle.lists.specs.Lists.{Each, HasNoRepeats}
-use Rattle.alpha_outside.specs.Outside.{Rose}
+use Rattle.std.proofs.Common.{◌≡◌, ◌⊎◌, inl, inr, refl, sym, ap, subst, ◌∙◌, ℕ, ◌<◌, ◌≤◌, true, false, List, [], Option, Some, None}
+use Rattle.std.specs.Prelude.{length}
+use Rattle.alpha_outside.specs.Outside.{FileIs}
 use Rattle.asp_syntax.specs.declared.tree.Statement.{Statement}
-use Rattle.asp_meaning.specs.Output.{set_lines, IsAnswerSetLine, HaveAll}
-use Rattle.asp_parser.specs.Grammar.{IsProgramText}
-use Rattle.asp_parser.proofs.FromMachine.{one_program}
-use Rattle.alpha.specs.declared.status.Refusal.TheVariants as refusal
+use Rattle.enumerator.specs.Search.{SinkChange, TraceChange, Journaled}
+use Rattle.alpha.specs.declared.status.BudgetKind.TheVariants as budget
 use Rattle.alpha.specs.declared.status.Status.{Status}
 use Rattle.alpha.specs.declared.status.Status.TheVariants as status
 use Rattle.alpha.specs.Texts.{has_message}
-use Rattle.alpha.specs.Promises.{Told, most_bytes, joined_text, IsAccepted, IsProgramOf, IsTooLongOf, IsAppended, OnlyAppends, OutputIs, IsEnded, IsRefusedWords, IsCaused}
-use Rattle.alpha.specs.Outcomes.{Counts, Outcome, WroteSome}
-use Rattle.alpha.proofs.Shown.{kept_is, only_appends, only_keeps, Shows, shows_nothing, shows-all, have_all, shows-front, shows-some, finished_output, cut_output, some_output}
+use Rattle.alpha.specs.TextAnswers.{IsProgramText, IsRefusedText}
+use Rattle.alpha.specs.Promises.{Told, Counts, most_bytes, most_sets, joined_text, IsTextOf, IsProgramOf, IsTooLongOf, IsAppended, OnlyAppends, OutputIs, OnlyNotes, IsUnsearched, IsRefusedWords, IsCaused}
+use Rattle.alpha.specs.Outcomes.{IsStill, WroteAll, Searched, ended, cut_off, untraced, memory, cut_off_memory}
+use Rattle.alpha.specs.Outcomes.{Treated, unread, refused, searched, Outcome, usage, no_memory, too_long, unreadable, treated}
+use Rattle.alpha.proofs.Appended.{kept_is, only_appends, only_keeps, only_notes, adds_nothing}
+use Rattle.alpha.proofs.Shown.{ended_output, cut_output, lines_output}
 
-module _ (told : Told) (shelf : Counts) (held held' : Option (List ℕ)) (faults faults' : ℕ) where
+-- the text of a told file
+text_of : (told : Told) (name bytes : List ℕ) (IsSo : List ℕ → Type 0) → FileIs told name bytes → length bytes ≤ most_bytes → IsSo (joined_text bytes) → IsTextOf told name IsSo
+text_of None name bytes IsSo file within so = tt
+text_of (Some files) name bytes IsSo file within so = (bytes, file, within, so)
+
+module _ (P : List Statement) (sink : SinkChange) (trace : TraceChange) where
+  -- ---- a search that ended by itself
+
+  ended_quiet : (s : Status) → WroteAll P sink trace s → has_message s ≡ false
+  ended_quiet (status.Finished printed) w = refl
+  ended_quiet (status.LimitReached printed) w = refl
+  ended_quiet (status.BudgetSpent kind number printed) w = refl
+  ended_quiet status.Usage w = absurd w.ends
+  ended_quiet (status.Refused r) w = absurd w.ends
+  ended_quiet (status.TextTooLong name) w = absurd w.ends
+  ended_quiet (status.ReadFault name) w = absurd w.ends
+  ended_quiet status.WriteFault w = absurd w.ends
+  ended_quiet status.TraceFault w = absurd w.ends
+  ended_quiet status.OutOfMemory w = absurd w.ends
+
+  ended_caused :
+      (told : Told) (shelf : Counts) (name : List ℕ) → IsProgramOf told name P → (s : Status) → WroteAll P sink trace s
+      → IsCaused (Some name) told shelf sink trace s
+  ended_caused told shelf name of (status.Finished printed) w = (subst (λ n. n < most_sets) (sym w.ends.0) w.ends.1, (name, refl, (P, of)))
+  ended_caused told shelf name of (status.LimitReached printed) w = (w.ends.0 ∙ sym w.ends.1, (name, refl, (P, of)))
+  ended_caused told shelf name of (status.BudgetSpent budget.Conflicts number printed) w =
+      (subst (λ n. n < most_sets) (sym w.ends.0) w.ends.1, w.ends.2, (name, refl, (P, of, record { journal = w.journaled.journal; legal = w.journaled.legal; tells = w.journaled.tells; struck = w.ends.3; one_more = w.ends.4 })))
+  ended_caused told shelf name of (status.BudgetSpent budget.Instances number printed) w = absurd w.ends
+  ended_caused told shelf name of status.Usage w = absurd w.ends
+  ended_caused told shelf name of (status.Refused r) w = absurd w.ends
+  ended_caused told shelf name of (status.TextTooLong long) w = absurd w.ends
+  ended_caused told shelf name of (status.ReadFault read) w = absurd w.ends
+  ended_caused told shelf name of status.WriteFault w = absurd w.ends
+  ended_caused told shelf name of status.TraceFault w = absurd w.ends
+  ended_caused told shelf name of status.OutOfMemory w = absurd w.ends
+
   -- ---- want of memory in place of a status that has a message
 
-  memory_of : (asks : Option (List ℕ)) (s : Status) → has_message s ≡ true → Outcome told asks shelf held held' faults faults' s → Outcome told asks shelf held held' faults faults' status.OutOfMemory
-  memory_of (Some name) (status.Finished printed) m o = absurd (cc)
-  memory_of (Some name) status.Usage m o = absurd o
-  memory_of (Some name) (status.Refused (refusal.NotYet line)) m o = inl o.1
-  memory_of (Some name) (status.TextTooLong long) m o = inl o.3
-  memory_of (Some name) (status.ReadFault read) m o = inl o.2
-  memory_of (Some name) status.WriteFault m o = inr (o.1.0, o.1.1, inr (o.0, o.1.2))
-  memory_of (Some name) status.OutOfMemory m o = o
-  memory_of None (status.Finished printed) m o = absurd o
-  memory_of None status.Usage m o = o
-  memory_of None (status.Refused r) m o = absurd o
-  memory_of None (status.TextTooLong long) m o = absurd o
-  memory_of None (status.ReadFault read) m o = absurd o
-  memory_of None status.WriteFault m o = absurd o
-  memory_of None status.OutOfMemory m o = o
+  searched_memory : (s : Status) → has_message s ≡ true → Searched P sink trace s → Searched P sink trace status.OutOfMemory
+  searched_memory s m (ended w) = let q = ended_quiet s w in absurd (cc)
+  searched_memory s m (cut_off rose w) = cut_off_memory rose w
+  searched_memory s m (untraced rose w) = memory w
+  searched_memory s m (memory w) = memory w
+  searched_memory s m (cut_off_memory rose w) = cut_off_memory rose w
+
+  -- ---- what was written and noted
+
+  searched_appends : (s : Status) → Searched P sink trace s → OnlyAppends sink.held sink.held'
+  searched_appends s (ended w) = only_appends sink.held sink.held' _ w.bytes
+  searched_appends s (cut_off rose w) = only_appends sink.held sink.held' _ w.bytes
+  searched_appends s (untraced rose (inl w)) = only_appends sink.held sink.held' _ w.bytes
+  searched_appends s (untraced rose (inr w)) = only_appends sink.held sink.held' _ w.bytes
+  searched_appends s (memory (inl w)) = only_appends sink.held sink.held' _ w.bytes
+  searched_appends s (memory (inr w)) = only_appends sink.held sink.held' _ w.bytes
+  searched_appends s (cut_off_memory rose w) = only_appends sink.held sink.held' _ w.bytes
+
+  journal_notes : (lines : List (List ℕ)) → Journaled P trace lines → OnlyNotes trace.told trace.told'
+  journal_notes lines j = only_notes trace.told trace.told' j.tells.0 j.tells.1
+
+  searched_notes : (s : Status) → Searched P sink trace s → OnlyNotes trace.told trace.told'
+  searched_notes s (ended w) = journal_notes w.lines w.journaled
+  searched_notes s (cut_off rose w) = journal_notes w.lines w.journaled
+  searched_notes s (untraced rose (inl w)) = journal_notes w.lines w.journaled
+  searched_notes s (untraced rose (inr w)) = journal_notes w.lines w.journaled
+  searched_notes s (memory (inl w)) = journal_notes w.lines w.journaled
+  searched_notes s (memory (inr w)) = journal_notes w.lines w.journaled
+  searched_notes s (cut_off_memory rose w) = journal_notes w.lines w.journaled
+
+  searched_output : (b : List ℕ) → IsAppended sink.held sink.held' b → (s : Status) → Searched P sink trace s → OutputIs sink.faults sink.faults' s b
+  searched_output b is s (ended w) = ended_output P sink trace b is s w
+  searched_output b is s (cut_off rose w) = cut_output P sink trace b is w
+  searched_output b is s (untraced rose w) = lines_output P sink trace b is w
+  searched_output b is s (memory w) = inl (lines_output P sink trace b is w)
+  searched_output b is s (cut_off_memory rose w) = inr (rose, cut_output P sink trace b is w)
+
+  searched_caused :
+      (told : Told) (shelf : Counts) (name : List ℕ) → IsProgramOf told name P → (s : Status) → Searched P sink trace s
+      → IsCaused (Some name) told shelf sink trace s
+  searched_caused told shelf name of s (ended w) = ended_caused told shelf name of s w
+  searched_caused told shelf name of s (cut_off rose w) = (rose, (name, refl, (P, of)))
+  searched_caused told shelf name of s (untraced rose w) = (rose, (name, refl, (P, of)))
+  searched_caused told shelf name of s (memory w) = tt
+  searched_caused told shelf name of s (cut_off_memory rose w) = tt
+
+  -- a status of a run that searched nothing has a message, so no search ended with it
+  unsearched_speaks : (s : Status) → IsUnsearched s → has_message s ≡ true
+  unsearched_speaks status.Usage is = refl
+  unsearched_speaks (status.Refused r) is = refl
+  unsearched_speaks (status.TextTooLong name) is = refl
+  unsearched_speaks (status.ReadFault name) is = refl
+  unsearched_speaks (status.Finished printed) is = absurd is
+  unsearched_speaks (status.LimitReached printed) is = absurd is
+  unsearched_speaks (status.BudgetSpent kind number printed) is = absurd is
+  unsearched_speaks status.WriteFault is = absurd is
+  unsearched_speaks status.TraceFault is = absurd is
+  unsearched_speaks status.OutOfMemory is = absurd is
+
+  not_unsearched : (s : Status) → IsUnsearched s → Searched P sink trace s → ⊥
+  not_unsearched s is (ended w) = let q = ended_quiet s w in let m = unsearched_speaks s is in cc
+  not_unsearched s is (cut_off rose w) = is
+  not_unsearched s is (untraced rose w) = is
+  not_unsearched s is (memory w) = is
+  not_unsearched s is (cut_off_memory rose w) = is
+
+module _ (text : List ℕ) (sink : SinkChange) (trace : TraceChange) where
+  treated_memory : (s : Status) → has_message s ≡ true → Treated text sink trace s → Treated text sink trace status.OutOfMemory
+  treated_memory s m (unread kept) = unread kept
+  treated_memory s m (refused is kept) = unread kept
+  treated_memory s m (searched P is w) = searched P is (searched_memory P sink trace s m w)
+
+module _ (told : Told) (shelf : Counts) (sink : SinkChange) (trace : TraceChange) where
+  memory_of : (asks : Option (List ℕ)) (s : Status) → has_message s ≡ true → Outcome told shelf sink trace asks s → Outcome told shelf sink trace asks status.OutOfMemory
+  memory_of asks s m (usage kept) = no_memory kept
+  memory_of asks s m (no_memory kept) = no_memory kept
+  memory_of asks s m (too_long same rose long kept) = no_memory kept
+  memory_of asks s m (unreadable same rose kept) = no_memory kept
+  memory_of asks s m (treated bytes file within w) = treated bytes file within (treated_memory (joined_text bytes) sink trace s m w)
 
   -- the outcome of the status that is answered in the end
-  pub reported : (asks : Option (List ℕ)) (s t : Status) → Outcome told asks shelf held held' faults faults' s → (t ≡ s) ⊎ ((has_message s ≡ true) × (t ≡ status.OutOfMemory)) → Outcome told asks shelf held held' faults faults' t
-  reported asks s t o (inl same) = subst (Outcome told asks shelf held held' faults faults') (sym same) o
-  reported asks s t o (inr memory) = subst (Outcome told asks shelf held held' faults faults') (sym memory.1) (memory_of asks s memory.0 o)
+  pub reported :
+      (asks : Option (List ℕ)) (s t : Status) → Outcome told shelf sink trace asks s
+      → (t ≡ s) ⊎ ((has_message s ≡ true) × (t ≡ status.OutOfMemory)) → Outcome told shelf sink trace asks t
+  reported asks s t o (inl same) = subst (Outcome told shelf sink trace asks) (sym same) o
+  reported asks s t o (inr less) = subst (Outcome told shelf sink trace asks) (sym less.1) (memory_of asks s less.0 o)
 
   -- ---- byte for byte
 
-  module _ (b : List ℕ) (is : IsAppended held held' b) where
-    pub output : (asks : Option (List ℕ)) (s : Status) → Outcome told asks shelf held held' faults faults' s → OutputIs faults faults' s b
-    output (Some name) (status.Finished printed) o = finished_output o.0 held held' b is printed o.2
-    output (Some name) status.Usage o = absurd o
-    output (Some name) (status.Refused (refusal.NotYet line)) o = kept_is held held' b is o.1
-    output (Some name) (status.TextTooLong long) o = kept_is held held' b is o.3
-    output (Some name) (status.ReadFault read) o = kept_is held held' b is o.2
-    output (Some name) status.WriteFault o = cut_output o.1.0 held held' b is o.1.2
-    output (Some name) status.OutOfMemory (inl kept) = inl (record { lines = []; bytes = kept_is held held' b is kept; sets = tt })
-    output (Some name) status.OutOfMemory (inr some) = some_output some.0 held held' b is faults faults' some.2
-    output None (status.Finished printed) o = absurd o
-    output None status.Usage o = kept_is held held' b is o
-    output None (status.Refused r) o = absurd o
-    output None (status.TextTooLong long) o = absurd o
-    output None (status.ReadFault read) o = absurd o
-    output None status.WriteFault o = absurd o
-    output None status.OutOfMemory o = inl (record { lines = []; bytes = kept_is held held' b is o; sets = tt })
+  module _ (b : List ℕ) (is : IsAppended sink.held sink.held' b) where
+    nothing : IsStill sink trace → b ≡ []
+    nothing kept = kept_is sink.held sink.held' b is kept.bytes
+
+    treated_output : (text : List ℕ) (s : Status) → Treated text sink trace s → OutputIs sink.faults sink.faults' s b
+    treated_output text s (unread kept) = inl (record { lines = []; bytes = nothing kept; sets = tt })
+    treated_output text s (refused why kept) = nothing kept
+    treated_output text s (searched P so w) = searched_output P sink trace b is s w
+
+    pub output : (asks : Option (List ℕ)) (s : Status) → Outcome told shelf sink trace asks s → OutputIs sink.faults sink.faults' s b
+    output asks s (usage kept) = nothing kept
+    output asks s (no_memory kept) = inl (record { lines = []; bytes = nothing kept; sets = tt })
+    output asks s (too_long same rose long kept) = nothing kept
+    output asks s (unreadable same rose kept) = nothing kept
+    output asks s (treated bytes file within w) = treated_output (joined_text bytes) s w
 
   -- ---- nothing but appending
 
-  some_appends : (P : List Statement) → WroteSome P held held' faults faults' → OnlyAppends held held'
-  some_appends P (inl lines) = only_appends held held' _ lines.bytes
-  some_appends P (inr front) = only_appends held held' _ front.1.bytes
+  still_appends : IsStill sink trace → OnlyAppends sink.held sink.held'
+  still_appends kept = only_keeps sink.held sink.held' kept.bytes
 
-  pub output_appends : (asks : Option (List ℕ)) (s : Status) → Outcome told asks shelf held held' faults faults' s → OnlyAppends held held'
-  output_appends (Some name) (status.Finished printed) o = only_appends held held' _ o.2.bytes
-  output_appends (Some name) status.Usage o = absurd o
-  output_appends (Some name) (status.Refused (refusal.NotYet line)) o = only_keeps held held' o.1
-  output_appends (Some name) (status.TextTooLong long) o = only_keeps held held' o.3
-  output_appends (Some name) (status.ReadFault read) o = only_keeps held held' o.2
-  output_appends (Some name) status.WriteFault o = only_appends held held' _ o.1.2.bytes
-  output_appends (Some name) status.OutOfMemory (inl kept) = only_keeps held held' kept
-  output_appends (Some name) status.OutOfMemory (inr some) = some_appends some.0 some.2
-  output_appends None (status.Finished printed) o = absurd o
-  output_appends None status.Usage o = only_keeps held held' o
-  output_appends None (status.Refused r) o = absurd o
-  output_appends None (status.TextTooLong long) o = absurd o
-  output_appends None (status.ReadFault read) o = absurd o
-  output_appends None status.WriteFault o = absurd o
-  output_appends None status.OutOfMemory o = only_keeps held held' o
+  still_notes : IsStill sink trace → OnlyNotes trace.told trace.told'
+  still_notes kept = only_notes trace.told trace.told' [] (adds_nothing trace.told trace.told' kept.events)
+
+  treated_appends : (text : List ℕ) (s : Status) → Treated text sink trace s → OnlyAppends sink.held sink.held'
+  treated_appends text s (unread kept) = still_appends kept
+  treated_appends text s (refused why kept) = still_appends kept
+  treated_appends text s (searched P so w) = searched_appends P sink trace s w
+
+  pub output_appends : (asks : Option (List ℕ)) (s : Status) → Outcome told shelf sink trace asks s → OnlyAppends sink.held sink.held'
+  output_appends asks s (usage kept) = still_appends kept
+  output_appends asks s (no_memory kept) = still_appends kept
+  output_appends asks s (too_long same rose long kept) = still_appends kept
+  output_appends asks s (unreadable same rose kept) = still_appends kept
+  output_appends asks s (treated bytes file within w) = treated_appends (joined_text bytes) s w
+
+  treated_notes : (text : List ℕ) (s : Status) → Treated text sink trace s → OnlyNotes trace.told trace.told'
+  treated_notes text s (unread kept) = still_notes kept
+  treated_notes text s (refused why kept) = still_notes kept
+  treated_notes text s (searched P so w) = searched_notes P sink trace s w
+
+  pub events_appended : (asks : Option (List ℕ)) (s : Status) → Outcome told shelf sink trace asks s → OnlyNotes trace.told trace.told'
+  events_appended asks s (usage kept) = still_notes kept
+  events_appended asks s (no_memory kept) = still_notes kept
+  events_appended asks s (too_long same rose long kept) = still_notes kept
+  events_appended asks s (unreadable same rose kept) = still_notes kept
+  events_appended asks s (treated bytes file within w) = treated_notes (joined_text bytes) s w
+
+  treated_unnoted : (text : List ℕ) (s : Status) → IsUnsearched s → Treated text sink trace s → trace.told' ≡ trace.told
+  treated_unnoted text s is (unread kept) = kept.events
+  treated_unnoted text s is (refused why kept) = kept.events
+  treated_unnoted text s is (searched P so w) = absurd (not_unsearched P sink trace s is w)
+
+  -- where nothing was searched nothing was noted
+  pub unnoted : (asks : Option (List ℕ)) (s : Status) → Outcome told shelf sink trace asks s → IsUnsearched s → trace.told' ≡ trace.told
+  unnoted asks s (usage kept) is = kept.events
+  unnoted asks s (no_memory kept) is = kept.events
+  unnoted asks s (too_long same rose long kept) is = kept.events
+  unnoted asks s (unreadable same rose kept) is = kept.events
+  unnoted asks s (treated bytes file within w) is = treated_unnoted (joined_text bytes) s is w
 
   -- ---- each status by its cause
 
-  pub caused : (asks : Option (List ℕ)) (s : Status) → Outcome told asks shelf held held' faults faults' s → IsCaused asks told (shelf.faults, shelf.faults') (shelf.taken, shelf.taken') (faults, faults') s
-  caused (Some name) (status.Finished printed) o = (name, refl, (o.0, o.1))
-  caused (Some name) status.Usage o = absurd o
-  caused (Some name) (status.Refused (refusal.NotYet line)) o = (name, refl, o.0)
-  caused (Some name) (status.TextTooLong long) o = (let same = sym o.0 in let P : List ℕ → Type 0 = λ x. Some name ≡ Some x in subst P same refl, o.1, subst (IsTooLongOf told) (sym o.0) o.2)
-  caused (Some name) (status.ReadFault read) o = (let P : List ℕ → Type 0 = λ x. Some name ≡ Some x in subst P (sym o.0) refl, o.1)
-  caused (Some name) status.WriteFault o = (o.0, (name, refl, (o.1.0, o.1.1)))
-  caused (Some name) status.OutOfMemory o = tt
-  caused None (status.Finished printed) o = absurd o
-  caused None status.Usage o = refl
-  caused None (status.Refused r) o = absurd o
-  caused None (status.TextTooLong long) o = absurd o
-  caused None (status.ReadFault read) o = absurd o
-  caused None status.WriteFault o = absurd o
-  caused None status.OutOfMemory o = tt
+  treated_caused : (name bytes : List ℕ) → FileIs told name bytes → length bytes ≤ most_bytes → (s : Status) → Treated (joined_text bytes) sink trace s → IsCaused (Some name) told shelf sink trace s
+  treated_caused name bytes file within s (unread kept) = tt
+  treated_caused name bytes file within s (refused {r} why kept) = (name, refl, text_of told name bytes (λ text. IsRefusedText text r) file within why)
+  treated_caused name bytes file within s (searched P so w) =
+      searched_caused P sink trace told shelf name (text_of told name bytes (λ text. IsProgramText text P) file within so) s w
 
-  pub refused_words : (asks : Option (List ℕ)) (s : Status) → Outcome told asks shelf held held' faults faults' s → asks ≡ None → IsRefusedWords s
-  refused_words (Some name) s o none = absurd (cc)
-  refused_words None (status.Finished printed) o none = absurd o
-  refused_words None status.Usage o none = tt
-  refused_words None (status.Refused r) o none = absurd o
-  refused_words None (status.TextTooLong long) o none = absurd o
-  refused_words None (status.ReadFault read) o none = absurd o
-  refused_words None status.WriteFault o none = absurd o
-  refused_words None status.OutOfMemory o none = tt
+  pub caused : (asks : Option (List ℕ)) (s : Status) → Outcome told shelf sink trace asks s → IsCaused asks told shelf sink trace s
+  caused asks s (usage kept) = refl
+  caused asks s (no_memory kept) = tt
+  caused asks s (too_long same rose long kept) = (ap Some (sym same), rose, subst (IsTooLongOf told) (sym same) long)
+  caused asks s (unreadable same rose kept) = (ap Some (sym same), rose)
+  caused asks s (treated {name} bytes file within w) = treated_caused name bytes file within s w
 
--- ---- where the words and the file are accepted
-
-module _ (told : Told) (asks : Option (List ℕ)) (shelf : Counts) (held held' : Option (List ℕ)) (faults faults' : ℕ) (P : List Statement) (a : IsAccepted asks told P) where
-  -- the outcome at what was asked and told
-  at_told : (s : Status) → Outcome told asks shelf held held' faults faults' s → Outcome (Some a.files) (Some a.name) shelf held held' faults faults' s
-  at_told s o = subst (λ t. Outcome t (Some a.name) shelf held held' faults faults' s) a.told_is (subst (λ q. Outcome told q shelf held held' faults faults' s) a.asked o)
-
-  same_file : (bytes : List ℕ) → a.files a.name ≡ Some bytes → bytes ≡ a.bytes
-  same_file bytes e = cc (e, a.file)
-
-  -- the program of the file is P
-  same_program : (Q : List Statement) → IsProgramOf (Some a.files) a.name Q → Q ≡ P
-  same_program Q of =
-      one_program (joined_text a.bytes) Q P (subst (λ bytes. IsProgramText (joined_text bytes) Q) (same_file of.0 of.1) of.3) a.text
-
-  pub ends : (s : Status) → Outcome told asks shelf held held' faults faults' s → ¬ Rose shelf.faults shelf.faults' → ¬ Rose faults faults' → IsEnded s
-  ends (status.Finished printed) o read write = tt
-  ends status.OutOfMemory o read write = tt
-  ends status.Usage o read write = at_told status.Usage o
-  ends (status.Refused (refusal.NotYet line)) o read write =
-      let h = (at_told (status.Refused (refusal.NotYet line)) o).0 in
-      h.3.none P (subst (λ bytes. IsProgramText (joined_text bytes) P) (sym (same_file h.0 h.1)) a.text)
-  ends (status.TextTooLong long) o read write =
-      let h = (at_told (status.TextTooLong long) o).2 in
-      let above : most_bytes < length a.bytes = subst (λ bytes. most_bytes < length bytes) (same_file h.0 h.1) h.2 in
-      omega (arith, above, a.within)
-  ends (status.ReadFault name) o read write = read ((at_told (status.ReadFault name) o).1)
-  ends status.WriteFault o read write = write ((at_told status.WriteFault o).0)
-
-  module _ (b : List ℕ) (is : IsAppended held held' b) where
-    as_P : (Q : List Statement) → IsProgramOf (Some a.files) a.name Q → Shows Q b → Shows P b
-    as_P Q of = subst (λ R. Shows R b) (same_program Q of)
-
-    memory_shows : Outcome (Some a.files) (Some a.name) shelf held held' faults faults' status.OutOfMemory → Shows P b
-    memory_shows (inl kept) = shows_nothing P b (kept_is held held' b is kept)
-    memory_shows (inr some) = as_P some.0 some.1 (shows-some some.0 held held' b is faults faults' some.2)
-
-    pub shows : (s : Status) → Outcome told asks shelf held held' faults faults' s → Shows P b
-    shows (status.Finished printed) o =
-        let h = at_told (status.Finished printed) o in
-        as_P h.0 h.1 (shows-all h.0 held held' b is printed h.2)
-    shows status.OutOfMemory o = memory_shows (at_told status.OutOfMemory o)
-    shows status.Usage o = absurd (at_told status.Usage o)
-    shows (status.Refused (refusal.NotYet line)) o = shows_nothing P b (kept_is held held' b is ((at_told (status.Refused (refusal.NotYet line)) o).1))
-    shows (status.TextTooLong long) o = shows_nothing P b (kept_is held held' b is ((at_told (status.TextTooLong long) o).3))
-    shows (status.ReadFault name) o = shows_nothing P b (kept_is held held' b is ((at_told (status.ReadFault name) o).2))
-    shows status.WriteFault o =
-        let h = (at_told status.WriteFault o).1 in
-        as_P h.0 h.1 (shows-front h.0 held held' b is h.2)
-
-    pub shown_are_answer_sets : (s : Status) → Outcome told asks shelf held held' faults faults' s → Each (IsAnswerSetLine P) (set_lines b)
-    shown_are_answer_sets s o = let h = shows s o in subst (Each (IsAnswerSetLine P)) (sym h.are) h.sets.each
-
-    pub shown_once : (s : Status) → Outcome told asks shelf held held' faults faults' s → HasNoRepeats (set_lines b)
-    shown_once s o = let h = shows s o in subst HasNoRepeats (sym h.are) h.sets.once
-
-    pub finished_is_complete : (printed : ℕ) → Outcome told asks shelf held held' faults faults' (status.Finished printed) → HaveAll P (set_lines b)
-    finished_is_complete printed o =
-        let h = at_told (status.Finished printed) o in
-        subst (λ Q. HaveAll Q (set_lines b)) (same_program h.0 h.1) (have_all h.0 held held' b is printed h.2)
+  pub refused_words : (asks : Option (List ℕ)) (s : Status) → Outcome told shelf sink trace asks s → asks ≡ None → IsRefusedWords s
+  refused_words asks s (usage kept) none = tt
+  refused_words asks s (no_memory kept) none = tt
+  refused_words asks s (too_long same rose long kept) none = absurd (cc)
+  refused_words asks s (unreadable same rose kept) none = absurd (cc)
+  refused_words asks s (treated bytes file within w) none = absurd (cc)

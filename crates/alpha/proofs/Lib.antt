@@ -1,5 +1,11 @@
+pub mod BuiltLemmas
+pub mod TextLemmas
+pub mod Appended
 pub mod LastLine
-pub mod Shown
-pub mod Clauses
 pub mod Messages
 pub mod Solving
+pub mod Treating
+pub mod Shown
+pub mod Noted
+pub mod Clauses
+pub mod Accepted

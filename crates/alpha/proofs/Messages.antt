@@ -8,7 +8,7 @@ use Rattle.alpha.specs.declared.status.Status.{Status}
 use Rattle.alpha.specs.declared.status.Status.TheVariants as status
 use Rattle.alpha.specs.Texts.{has_message, message_of}
 use Rattle.alpha.specs.Promises.{IsAppended, IsFront, MessageIs}
-use Rattle.alpha.proofs.Shown.{appended_is, kept_is}
+use Rattle.alpha.proofs.Appended.{appended_is, kept_is}
 
 -- the whole message, where the status isn't want of memory, or a front of it
 message_or_front : (faults faults' : ℕ) (s : Status) (m : List ℕ) → m ≡ message_of s → IsFront m (message_of s) → MessageIs faults faults' s m
@@ -18,6 +18,9 @@ message_or_front faults faults' (status.Refused r) m e front = inl e
 message_or_front faults faults' (status.TextTooLong name) m e front = inl e
 message_or_front faults faults' (status.ReadFault name) m e front = inl e
 message_or_front faults faults' status.WriteFault m e front = inl e
+message_or_front faults faults' status.TraceFault m e front = inl e
+message_or_front faults faults' (status.LimitReached printed) m e front = inl e
+message_or_front faults faults' (status.BudgetSpent kind number printed) m e front = inl e
 message_or_front faults faults' status.OutOfMemory m e front = front
 
 failed_message : (faults faults' : ℕ) (s : Status) (m : List ℕ) → Rose faults faults' → IsFront m (message_of s) → MessageIs faults faults' s m
@@ -27,6 +30,9 @@ failed_message faults faults' (status.Refused r) m rose front = inr (rose, front
 failed_message faults faults' (status.TextTooLong name) m rose front = inr (rose, front)
 failed_message faults faults' (status.ReadFault name) m rose front = inr (rose, front)
 failed_message faults faults' status.WriteFault m rose front = inr (rose, front)
+failed_message faults faults' status.TraceFault m rose front = inr (rose, front)
+failed_message faults faults' (status.LimitReached printed) m rose front = inr (rose, front)
+failed_message faults faults' (status.BudgetSpent kind number printed) m rose front = inr (rose, front)
 failed_message faults faults' status.OutOfMemory m rose front = front
 
 whole_is_front : (xs : List ℕ) → IsFront xs xs
@@ -56,6 +62,9 @@ no_message held faults faults' (status.Refused r) m none is = absurd (cc)
 no_message held faults faults' (status.TextTooLong name) m none is = absurd (cc)
 no_message held faults faults' (status.ReadFault name) m none is = absurd (cc)
 no_message held faults faults' status.WriteFault m none is = absurd (cc)
+no_message held faults faults' status.TraceFault m none is = absurd (cc)
+no_message held faults faults' (status.LimitReached printed) m none is = inl (same_bytes held m is)
+no_message held faults faults' (status.BudgetSpent kind number printed) m none is = inl (same_bytes held m is)
 no_message held faults faults' status.OutOfMemory m none is = absurd (cc)
 
 -- nothing was written for want of memory

@@ -1,122 +1,137 @@
--- The set lines of what a run wrote.
-use Rattle.std.proofs.Common.{◌≡◌, ◌⊎◌, inl, inr, refl, sym, ap, subst, ◌∙◌, ℕ, List, [], ◌∷◌, ◌++◌, length, take, Option, Some, None, append-nil}
-use Rattle.std.specs.Io.KnownBytes.{Appends, Keeps}
-use Rattle.std.proofs.KnownBytes.{Appends-nil, Appends-kept}
-use Rattle.std.proofs.lemmas.List.{append_cancel_left}
-use Rattle.lists.specs.Lists.{◌∈◌, Each, HasNoRepeats, concat}
-use Rattle.lists.proofs.ListLemmas.{Each-map, Each-append, ∈-append_cases}
-use Rattle.alpha_outside.specs.Outside.{Rose}
+-- The set lines of an output, and its bytes, by what was written.
+use Rattle.std.proofs.Common.{◌≡◌, ◌⊎◌, inl, inr, refl, sym, ap, subst, ◌∙◌, ℕ, List, [], ◌∷◌, ◌++◌, length, take, append-nil}
+use Rattle.lists.specs.Lists.{Each, HasNoRepeats, concat}
+use Rattle.lists.proofs.ListLemmas.{Each-map}
 use Rattle.asp_syntax.specs.declared.tree.Statement.{Statement}
 use Rattle.asp_meaning.specs.Output.{set_lines, IsAnswerSetLine, IsBraceLine, AreAnswerSetLines, HaveAll}
-use Rattle.asp_meaning.proofs.LineLemmas.{set_lines-concat, set_lines-take, set_lines-other}
-use Rattle.alpha.specs.Texts.{finished_line}
-use Rattle.alpha.specs.Promises.{IsAppended, OnlyAppends, IsLineOfSet, IsSetLines, IsFinishedOutput, IsCutOutput}
-use Rattle.alpha.specs.Outcomes.{WroteAll, WroteLines, IsNext, WroteFront, WroteSome}
+use Rattle.asp_meaning.proofs.LineLemmas.{IsOtherLine, set_lines-concat, set_lines-take, set_lines-other}
+use Rattle.lists.proofs.ListLemmas.{Each-append, ∈-append_cases}
+use Rattle.lists.specs.Lists.{◌∈◌}
+use Rattle.enumerator.specs.Search.{SinkChange, TraceChange, Journaled, Wrote, WroteOneMore}
+use Rattle.alpha.specs.declared.status.BudgetKind.TheVariants as budget
+use Rattle.alpha.specs.declared.status.Status.{Status}
+use Rattle.alpha.specs.declared.status.Status.TheVariants as status
+use Rattle.alpha.specs.Texts.{last_line_of}
+use Rattle.alpha.specs.Promises.{IsAppended, IsLineOfSet, IsSetLines, IsWholeOutput, IsCutOutput, HasPrinted, IsLastLine, OutputIs}
+use Rattle.alpha.specs.Outcomes.{WroteAll, IsNext, WroteFront}
+use Rattle.alpha.proofs.Appended.{appended_is}
 use Rattle.alpha.proofs.LastLine.{last_line_is_other}
 
--- ---- what was appended
-
-some_inj : (xs ys : List ℕ) → Some xs ≡ Some ys → xs ≡ ys
-some_inj xs ys e = cc
-
--- the bytes that were appended are those of which it is known
-pub appended_is : (held held' : Option (List ℕ)) (b x : List ℕ) → IsAppended held held' b → Appends held held' x → b ≡ x
-appended_is held held' b x is appends =
-    let at : Appends (Some is.0) (Some (is.0 ++ b)) x = subst (λ h. Appends (Some is.0) h x) is.2 (subst (λ h. Appends h held' x) is.1 appends) in
-    append_cancel_left is.0 b x at
-
-pub kept_is : (held held' : Option (List ℕ)) (b : List ℕ) → IsAppended held held' b → Keeps held held' → b ≡ []
-kept_is held held' b is keeps =
-    let at : Keeps (Some is.0) (Some (is.0 ++ b)) = subst (λ h. Keeps (Some is.0) h) is.2 (subst (λ h. Keeps h held') is.1 keeps) in
-    append_cancel_left is.0 b [] (at ∙ sym (append-nil is.0))
-
--- where bytes were appended, nothing else was done
-pub only_appends : (held held' : Option (List ℕ)) (x : List ℕ) → Appends held held' x → OnlyAppends held held'
-only_appends None held' x appends = tt
-only_appends (Some before) None x appends = absurd appends
-only_appends (Some before) (Some after) x appends = (x, (before, refl, ap Some appends))
-
-pub only_keeps : (held held' : Option (List ℕ)) → Keeps held held' → OnlyAppends held held'
-only_keeps held held' keeps = only_appends held held' [] (Appends-kept held held held' [] (Appends-nil held) keeps)
-
--- ---- the lines of answer sets among what was written
-
--- the set lines are lines of answer sets
-pub record Shows (P : List Statement) (b : List ℕ) : Type 0 where
-  pub lines : List (List ℕ)
-  pub are : set_lines b ≡ lines
-  pub sets : AreAnswerSetLines P lines
-
-pub shows_nothing : (P : List Statement) (b : List ℕ) → b ≡ [] → Shows P b
-shows_nothing P b e = record { lines = []; are = ap set_lines e; sets = record { each = tt; once = tt; whole = tt } }
-
-lines_and_last : (P : List Statement) (lines : List (List ℕ)) (cut : ℕ) (printed : ℕ) → AreAnswerSetLines P lines → set_lines (concat lines ++ take cut (finished_line printed)) ≡ lines
-lines_and_last P lines cut printed sets =
-    set_lines-concat lines (take cut (finished_line printed)) sets.whole ∙ ap (λ xs. lines ++ xs) (set_lines-other cut (finished_line printed) (last_line_is_other printed)) ∙ append-nil lines
+-- ---- lines
 
 take-all : (xs : List ℕ) → take (length xs) xs ≡ xs
 take-all [] = refl
 take-all (x ∷ xs) = ap (λ ys. x ∷ ys) (take-all xs)
 
-lines_of_all : (P : List Statement) (lines : List (List ℕ)) (printed : ℕ) (b : List ℕ) → AreAnswerSetLines P lines → b ≡ concat lines ++ finished_line printed → set_lines b ≡ lines
-lines_of_all P lines printed b sets e =
-    ap set_lines (e ∙ ap (λ xs. concat lines ++ xs) (sym (take-all (finished_line printed)))) ∙ lines_and_last P lines (length (finished_line printed)) printed sets
+whole_set_lines : (lines : List (List ℕ)) → Each IsBraceLine lines → set_lines (concat lines) ≡ lines
+whole_set_lines lines whole = ap set_lines (sym (append-nil (concat lines))) ∙ set_lines-concat lines [] whole ∙ append-nil lines
 
-module _ (P : List Statement) (held held' : Option (List ℕ)) (b : List ℕ) (is : IsAppended held held' b) where
-  pub shows-all : (printed : ℕ) → WroteAll P held held' printed → Shows P b
-  shows-all printed w = record {
-    lines = w.lines;
-    are = lines_of_all P w.lines printed b w.sets (appended_is held held' b (concat w.lines ++ finished_line printed) is w.bytes);
-    sets = w.sets;
+-- lines before a front of another line that is none of a set
+before_other : (lines : List (List ℕ)) (other : List ℕ) (cut : ℕ) → Each IsBraceLine lines → IsOtherLine other → set_lines (concat lines ++ take cut other) ≡ lines
+before_other lines other cut whole is = set_lines-concat lines (take cut other) whole ∙ ap (λ xs. lines ++ xs) (set_lines-other cut other is) ∙ append-nil lines
+
+-- and before such a line
+before_whole_other : (lines : List (List ℕ)) (other : List ℕ) → Each IsBraceLine lines → IsOtherLine other → set_lines (concat lines ++ other) ≡ lines
+before_whole_other lines other whole is =
+    ap (λ xs. set_lines (concat lines ++ xs)) (sym (take-all other)) ∙ before_other lines other (length other) whole is
+
+once-push : (xs : List (List ℕ)) (x : List ℕ) → HasNoRepeats xs → ¬ (x ∈ xs) → HasNoRepeats (xs ++ x ∷ [])
+once-push [] x once new = ((λ k. k), tt)
+once-push (y ∷ ys) x once new = (
+  (λ k. elim (∈-append_cases y ys (x ∷ []) k) [ inl l ↦ once.0 l | inr r ↦ elim r [ inl e ↦ new (inl (sym e)) | inr none ↦ none ] ]),
+  once-push ys x once.1 (λ k. new (inr k)),
+)
+
+-- ---- how a run ended
+
+-- a run that ended by itself has printed what it says
+pub printed_all : (P : List Statement) (sink : SinkChange) (trace : TraceChange) (s : Status) (w : WroteAll P sink trace s) → HasPrinted (length w.lines) s
+printed_all P sink trace (status.Finished printed) w = w.ends.0
+printed_all P sink trace (status.LimitReached printed) w = w.ends.0
+printed_all P sink trace (status.BudgetSpent budget.Conflicts number printed) w = w.ends.0
+printed_all P sink trace (status.BudgetSpent budget.Instances number printed) w = absurd w.ends
+printed_all P sink trace status.Usage w = absurd w.ends
+printed_all P sink trace (status.Refused r) w = absurd w.ends
+printed_all P sink trace (status.TextTooLong name) w = absurd w.ends
+printed_all P sink trace (status.ReadFault name) w = absurd w.ends
+printed_all P sink trace status.WriteFault w = absurd w.ends
+printed_all P sink trace status.TraceFault w = absurd w.ends
+printed_all P sink trace status.OutOfMemory w = absurd w.ends
+
+-- its last line is no set line
+pub last_is_other : (P : List Statement) (sink : SinkChange) (trace : TraceChange) (s : Status) (w : WroteAll P sink trace s) → IsOtherLine (last_line_of s)
+last_is_other P sink trace s w = last_line_is_other (length w.lines) (last_line_of s) (s, printed_all P sink trace s w, refl)
+
+-- ---- the set lines
+
+-- lines of answer sets, of which the journal tells all or all but the last
+pub record Shows (P : List Statement) (trace : TraceChange) (b : List ℕ) : Type 0 where
+  pub noted : List (List ℕ)
+  pub more : List (List ℕ)
+  pub few : (more ≡ []) ⊎ ((line : List ℕ) × (more ≡ line ∷ []))
+  pub are : set_lines b ≡ noted ++ more
+  pub sets : AreAnswerSetLines P (noted ++ more)
+  pub journaled : Journaled P trace noted
+
+module _ (P : List Statement) (sink : SinkChange) (trace : TraceChange) (b : List ℕ) (is : IsAppended sink.held sink.held' b) where
+  -- the set lines are just those of the journal
+  pub all_lines : (s : Status) (w : WroteAll P sink trace s) → set_lines b ≡ w.lines
+  all_lines s w =
+      ap set_lines (appended_is sink.held sink.held' b (concat w.lines ++ last_line_of s) is w.bytes)
+      ∙ before_whole_other w.lines (last_line_of s) w.sets.whole (last_is_other P sink trace s w)
+
+  nothing_more : (lines : List (List ℕ)) → set_lines b ≡ lines → AreAnswerSetLines P lines → Journaled P trace lines → Shows P trace b
+  nothing_more lines are sets journaled = record {
+    noted = lines;
+    more = [];
+    few = inl refl;
+    are = are ∙ sym (append-nil lines);
+    sets = subst (AreAnswerSetLines P) (sym (append-nil lines)) sets;
+    journaled = journaled;
   }
 
-  pub have_all : (printed : ℕ) → WroteAll P held held' printed → HaveAll P (set_lines b)
-  have_all printed w =
-      subst (HaveAll P) (sym (lines_of_all P w.lines printed b w.sets (appended_is held held' b (concat w.lines ++ finished_line printed) is w.bytes))) w.all
-
-  pub shows-lines : WroteLines P held held' → Shows P b
-  shows-lines w = record {
-    lines = w.lines;
-    are = ap set_lines (appended_is held held' b (concat w.lines) is w.bytes ∙ sym (append-nil (concat w.lines))) ∙ set_lines-concat w.lines [] w.sets.whole ∙ append-nil w.lines;
-    sets = w.sets;
-  }
-
-  shows-next : (lines : List (List ℕ)) (next : List ℕ) (cut : ℕ) → b ≡ concat lines ++ take cut next → AreAnswerSetLines P lines → IsNext P lines next → Shows P b
-  shows-next lines next cut e sets (inr last) = record {
-    lines = lines;
-    are = ap set_lines (e ∙ ap (λ xs. concat lines ++ take cut xs) last) ∙ lines_and_last P lines cut (length lines) sets;
+  one_more : (lines : List (List ℕ)) (next : List ℕ) → set_lines b ≡ lines ++ next ∷ [] → AreAnswerSetLines P (lines ++ next ∷ []) → Journaled P trace lines → Shows P trace b
+  one_more lines next are sets journaled = record {
+    noted = lines;
+    more = next ∷ [];
+    few = inr (next, refl);
+    are = are;
     sets = sets;
+    journaled = journaled;
   }
-  shows-next lines next cut e sets (inl set) = elim (set_lines-take cut next set.1) [
-    | inl none ↦ record {
-      lines = lines;
-      are = ap set_lines e ∙ set_lines-concat lines (take cut next) sets.whole ∙ ap (λ xs. lines ++ xs) none ∙ append-nil lines;
-      sets = sets;
-    }
-    | inr whole ↦ record {
-      lines = lines ++ next ∷ [];
-      are = ap set_lines e ∙ set_lines-concat lines (take cut next) sets.whole ∙ ap (λ xs. lines ++ xs) whole;
-      sets = record {
-        each = Each-append (IsAnswerSetLine P) lines (next ∷ []) sets.each (set.0, tt);
-        once = once-push lines next sets.once set.2;
-        whole = Each-append IsBraceLine lines (next ∷ []) sets.whole (set.1, tt);
-      };
-    }
+
+  pub shows-all : (s : Status) → WroteAll P sink trace s → Shows P trace b
+  shows-all s w = nothing_more w.lines (all_lines s w) w.sets w.journaled
+
+  pub shows-lines : Wrote P sink trace ⊎ WroteOneMore P sink trace → Shows P trace b
+  shows-lines (inl w) =
+      nothing_more w.lines (ap set_lines (appended_is sink.held sink.held' b (concat w.lines) is w.bytes) ∙ whole_set_lines w.lines w.sets.whole) w.sets w.journaled
+  shows-lines (inr w) =
+      one_more w.lines w.next
+      (ap set_lines (appended_is sink.held sink.held' b (concat (w.lines ++ w.next ∷ [])) is w.bytes) ∙ whole_set_lines (w.lines ++ w.next ∷ []) w.sets.whole)
+      w.sets w.journaled
+
+  with_next : (lines : List (List ℕ)) (next : List ℕ) → AreAnswerSetLines P lines → IsAnswerSetLine P next → IsBraceLine next → ¬ (next ∈ lines) → AreAnswerSetLines P (lines ++ next ∷ [])
+  with_next lines next sets set whole new = record {
+    each = Each-append (IsAnswerSetLine P) lines (next ∷ []) sets.each (set, tt);
+    once = once-push lines next sets.once new;
+    whole = Each-append IsBraceLine lines (next ∷ []) sets.whole (whole, tt);
+  }
+
+  shows-next : (lines : List (List ℕ)) (next : List ℕ) (cut : ℕ) → b ≡ concat lines ++ take cut next → AreAnswerSetLines P lines → Journaled P trace lines → IsNext P lines next → Shows P trace b
+  shows-next lines next cut e sets journaled (inr last) =
+      nothing_more lines (ap set_lines e ∙ before_other lines next cut sets.whole (last_line_is_other (length lines) next last)) sets journaled
+  shows-next lines next cut e sets journaled (inl set) = elim (set_lines-take cut next set.1) [
+    | inl none ↦ nothing_more lines (ap set_lines e ∙ set_lines-concat lines (take cut next) sets.whole ∙ ap (λ xs. lines ++ xs) none ∙ append-nil lines) sets journaled
+    | inr whole ↦
+        one_more lines next (ap set_lines e ∙ set_lines-concat lines (take cut next) sets.whole ∙ ap (λ xs. lines ++ xs) whole) (with_next lines next sets set.0 set.1 set.2) journaled
   ]
-    where
-      once-push : (xs : List (List ℕ)) (x : List ℕ) → HasNoRepeats xs → ¬ (x ∈ xs) → HasNoRepeats (xs ++ x ∷ [])
-      once-push [] x once new = ((λ k. k), tt)
-      once-push (y ∷ ys) x once new = (
-        (λ k. elim (∈-append_cases y ys (x ∷ []) k) [ inl l ↦ once.0 l | inr r ↦ elim r [ inl e ↦ new (inl (sym e)) | inr none ↦ none ] ]),
-        once-push ys x once.1 (λ k. new (inr k)),
-      )
 
-  pub shows-front : WroteFront P held held' → Shows P b
-  shows-front w = shows-next w.lines w.next w.cut (appended_is held held' b (concat w.lines ++ take w.cut w.next) is w.bytes) w.sets w.next_is
+  pub shows-front : WroteFront P sink trace → Shows P trace b
+  shows-front w = shows-next w.lines w.next w.cut (appended_is sink.held sink.held' b (concat w.lines ++ take w.cut w.next) is w.bytes) w.sets w.journaled w.next_is
 
-  pub shows-some : (faults faults' : ℕ) → WroteSome P held held' faults faults' → Shows P b
-  shows-some faults faults' (inl w) = shows-lines w
-  shows-some faults faults' (inr w) = shows-front w.1
+  pub have_all : (printed : ℕ) → WroteAll P sink trace (status.Finished printed) → HaveAll P (set_lines b)
+  have_all printed w = subst (HaveAll P) (sym (all_lines (status.Finished printed) w)) w.ends.2
 
   -- ---- byte for byte
 
@@ -126,29 +141,43 @@ module _ (P : List Statement) (held held' : Option (List ℕ)) (b : List ℕ) (i
   sets_of : (lines : List (List ℕ)) → AreAnswerSetLines P lines → Each IsLineOfSet lines
   sets_of lines sets = Each-map (IsAnswerSetLine P) IsLineOfSet set_of lines sets.each
 
-  pub finished_output : (printed : ℕ) → WroteAll P held held' printed → IsFinishedOutput printed b
-  finished_output printed w = record {
+  whole_output : (s : Status) (printed : ℕ) (w : WroteAll P sink trace s) → printed ≡ length w.lines → IsWholeOutput s printed b
+  whole_output s printed w count = record {
     lines = w.lines;
-    bytes = appended_is held held' b (concat w.lines ++ finished_line printed) is w.bytes;
+    bytes = appended_is sink.held sink.held' b (concat w.lines ++ last_line_of s) is w.bytes;
     sets = sets_of w.lines w.sets;
-    count = w.count;
+    count = count;
   }
 
-  next_of : (lines : List (List ℕ)) (next : List ℕ) → IsNext P lines next → IsLineOfSet next ⊎ (next ≡ finished_line (length lines))
+  pub ended_output : (s : Status) → WroteAll P sink trace s → OutputIs sink.faults sink.faults' s b
+  ended_output (status.Finished printed) w = whole_output (status.Finished printed) printed w w.ends.0
+  ended_output (status.LimitReached printed) w = whole_output (status.LimitReached printed) printed w w.ends.0
+  ended_output (status.BudgetSpent budget.Conflicts number printed) w = whole_output (status.BudgetSpent budget.Conflicts number printed) printed w w.ends.0
+  ended_output (status.BudgetSpent budget.Instances number printed) w = absurd w.ends
+  ended_output status.Usage w = absurd w.ends
+  ended_output (status.Refused r) w = absurd w.ends
+  ended_output (status.TextTooLong name) w = absurd w.ends
+  ended_output (status.ReadFault name) w = absurd w.ends
+  ended_output status.WriteFault w = absurd w.ends
+  ended_output status.TraceFault w = absurd w.ends
+  ended_output status.OutOfMemory w = absurd w.ends
+
+  next_of : (lines : List (List ℕ)) (next : List ℕ) → IsNext P lines next → IsLineOfSet next ⊎ IsLastLine (length lines) next
   next_of lines next (inl set) = inl (set_of next set.0)
   next_of lines next (inr last) = inr last
 
-  pub cut_output : WroteFront P held held' → IsCutOutput b
+  pub cut_output : WroteFront P sink trace → IsCutOutput b
   cut_output w = record {
     lines = w.lines;
     next = w.next;
     cut = w.cut;
-    bytes = appended_is held held' b (concat w.lines ++ take w.cut w.next) is w.bytes;
+    bytes = appended_is sink.held sink.held' b (concat w.lines ++ take w.cut w.next) is w.bytes;
     sets = sets_of w.lines w.sets;
     next_is = next_of w.lines w.next w.next_is;
   }
 
-  pub some_output : (faults faults' : ℕ) → WroteSome P held held' faults faults' → IsSetLines b ⊎ (Rose faults faults' × IsCutOutput b)
-  some_output faults faults' (inl w) =
-      inl (record { lines = w.lines; bytes = appended_is held held' b (concat w.lines) is w.bytes; sets = sets_of w.lines w.sets })
-  some_output faults faults' (inr w) = inr (w.0, cut_output w.1)
+  pub lines_output : Wrote P sink trace ⊎ WroteOneMore P sink trace → IsSetLines b
+  lines_output (inl w) =
+      record { lines = w.lines; bytes = appended_is sink.held sink.held' b (concat w.lines) is w.bytes; sets = sets_of w.lines w.sets }
+  lines_output (inr w) =
+      record { lines = w.lines ++ w.next ∷ []; bytes = appended_is sink.held sink.held' b (concat (w.lines ++ w.next ∷ [])) is w.bytes; sets = sets_of (w.lines ++ w.next ∷ []) w.sets }

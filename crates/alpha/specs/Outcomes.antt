@@ -1,90 +1,105 @@
--- What the work of a run comes to, by its status: its cause, and what it wrote. The promises of a run follow from it.
-use Rattle.std.specs.Prelude.{◌≡◌, ◌⊎◌, ◌+◌, ℕ, List, ◌++◌, length, take, Option, Some, None}
+-- What the work of a run comes to, by its status: its cause, what it wrote and what it noted. The promises of a run follow from it.
+use Rattle.std.specs.Prelude.{◌≡◌, ◌⊎◌, ◌+◌, ◌<◌, ◌≤◌, ℕ, List, ◌++◌, length, take, Option, Some, None}
 use Rattle.std.specs.Io.KnownBytes.{Appends, Keeps}
 use Rattle.lists.specs.Lists.{◌∈◌, concat}
-use Rattle.alpha_outside.specs.Outside.{Rose, RoseBy}
+use Rattle.alpha_outside.specs.Outside.{Rose, RoseBy, FileIs}
 use Rattle.asp_syntax.specs.declared.tree.Statement.{Statement}
 use Rattle.asp_meaning.specs.Output.{IsAnswerSetLine, IsBraceLine, AreAnswerSetLines, HaveAll}
-use Rattle.asp_parser.specs.Grammar.{IsProgramText}
-use Rattle.asp_parser.specs.Fault.{IsNotYet}
-use Rattle.alpha.specs.Texts.{finished_line}
-use Rattle.alpha.specs.Promises.{Told, most_bytes, joined_text, IsProgramOf, IsNotYetOf, IsTooLongOf}
-use Rattle.alpha.specs.declared.status.Refusal.TheVariants as refusal
+use Rattle.search_theory.specs.Journals.{replay}
+use Rattle.plain_rules.specs.Rules.{plain_rules}
+use Rattle.enumerator.specs.Journals.{Step, strikes, SomeStruck}
+use Rattle.enumerator.specs.Search.{SinkChange, TraceChange, Journaled, Wrote, WroteOneMore}
+use Rattle.enumerator.specs.declared.answers.End.{End}
+use Rattle.enumerator.specs.declared.answers.End.TheVariants as end
+use Rattle.enumerator.specs.declared.answers.Settings.{Settings}
+use Rattle.alpha.specs.Texts.{last_line_of}
+use Rattle.alpha.specs.TextAnswers.{IsProgramText, IsRefusedText}
+use Rattle.alpha.specs.Promises.{Told, Counts, most_bytes, most_sets, most_conflicts, most_instances, joined_text, IsTooLongOf, IsLastLine}
+use Rattle.alpha.specs.declared.status.BudgetKind.TheVariants as budget
+use Rattle.alpha.specs.declared.status.Refusal.{Refusal}
 use Rattle.alpha.specs.declared.status.Status.{Status}
 use Rattle.alpha.specs.declared.status.Status.TheVariants as status
 
--- the line of each answer set, and then the last line
-pub record WroteAll (P : List Statement) (held held' : Option (List ℕ)) (printed : ℕ) : Type 0 where
-  pub lines : List (List ℕ)
-  pub bytes : Appends held held' (concat lines ++ finished_line printed)
-  pub sets : AreAnswerSetLines P lines
-  pub all : HaveAll P lines
-  pub count : printed ≡ length lines
+-- nothing was written or noted
+pub record IsStill (sink : SinkChange) (trace : TraceChange) : Type 0 where
+  pub bytes : Keeps sink.held sink.held'
+  pub events : trace.told' ≡ trace.told
 
--- lines of answer sets
-pub record WroteLines (P : List Statement) (held held' : Option (List ℕ)) : Type 0 where
+-- ---- a search
+
+-- how far a search may go
+abbrev pub defaults : Settings
+defaults = record { limit = most_sets; conflicts = most_conflicts; instances = most_instances }
+
+-- the status of a search with these settings that ended by itself
+abbrev pub status_of : End → Status
+status_of (end.Finished printed) = status.Finished printed
+status_of (end.LimitReached printed) = status.LimitReached printed
+status_of (end.Conflicts printed) = status.BudgetSpent budget.Conflicts most_conflicts printed
+
+-- how a run ends by itself, after these lines and this journal: at the limit exactly where as many lines were written
+abbrev pub EndsAs : List Statement → List (List ℕ) → List Step → Status → Type 0
+EndsAs P lines journal (status.Finished printed) = (printed ≡ length lines) × (length lines < most_sets) × HaveAll P lines
+EndsAs P lines journal (status.LimitReached printed) = (printed ≡ length lines) × (most_sets ≡ length lines)
+EndsAs P lines journal (status.BudgetSpent budget.Conflicts number printed) =
+    (printed ≡ length lines) × (length lines < most_sets) × (number ≡ most_conflicts) × (strikes journal ≡ number) × SomeStruck (replay (plain_rules P) journal)
+EndsAs P lines journal _ = ⊥
+
+-- the lines of answer sets, as the journal says, and then the last line
+pub record WroteAll (P : List Statement) (sink : SinkChange) (trace : TraceChange) (s : Status) : Type 0 where
   pub lines : List (List ℕ)
-  pub bytes : Appends held held' (concat lines)
+  pub bytes : Appends sink.held sink.held' (concat lines ++ last_line_of s)
   pub sets : AreAnswerSetLines P lines
+  pub journaled : Journaled P trace lines
+  pub ends : EndsAs P lines journaled.journal s
 
 -- the line of another answer set than these, or the last line behind them
 abbrev pub IsNext : List Statement → List (List ℕ) → List ℕ → Type 0
-IsNext P lines next = (IsAnswerSetLine P next × IsBraceLine next × (¬ (next ∈ lines))) ⊎ (next ≡ finished_line (length lines))
+IsNext P lines next = (IsAnswerSetLine P next × IsBraceLine next × (¬ (next ∈ lines))) ⊎ IsLastLine (length lines) next
 
--- lines of answer sets, and then a front of another one or of the last line
-pub record WroteFront (P : List Statement) (held held' : Option (List ℕ)) : Type 0 where
+-- the lines of answer sets, as the journal says, and then a front of another one or of the last line
+pub record WroteFront (P : List Statement) (sink : SinkChange) (trace : TraceChange) : Type 0 where
   pub lines : List (List ℕ)
   pub next : List ℕ
   pub cut : ℕ
-  pub bytes : Appends held held' (concat lines ++ take cut next)
+  pub bytes : Appends sink.held sink.held' (concat lines ++ take cut next)
   pub sets : AreAnswerSetLines P lines
+  pub journaled : Journaled P trace lines
   pub next_is : IsNext P lines next
 
--- lines of answer sets, and where the count of faults rose perhaps a front of one more line
-abbrev pub WroteSome : List Statement → Option (List ℕ) → Option (List ℕ) → ℕ → ℕ → Type 0
-WroteSome P held held' faults faults' = WroteLines P held held' ⊎ (Rose faults faults' × WroteFront P held held')
+-- what came of a program, by the status: it ended by itself, or the output, the trace or memory stopped it
+pub data Searched (P : List Statement) (sink : SinkChange) (trace : TraceChange) : Status → Type 0 where
+  ended : {s : Status} → WroteAll P sink trace s → Searched P sink trace s
+  cut_off : Rose sink.faults sink.faults' → WroteFront P sink trace → Searched P sink trace status.WriteFault
+  untraced : Rose trace.faults trace.faults' → Wrote P sink trace ⊎ WroteOneMore P sink trace → Searched P sink trace status.TraceFault
+  memory : Wrote P sink trace ⊎ WroteOneMore P sink trace → Searched P sink trace status.OutOfMemory
+  cut_off_memory : Rose sink.faults sink.faults' → WroteFront P sink trace → Searched P sink trace status.OutOfMemory
 
--- what comes of an accepted program
-abbrev pub Solves : List Statement → Option (List ℕ) → Option (List ℕ) → ℕ → ℕ → Status → Type 0
-Solves P held held' faults faults' (status.Finished printed) = WroteAll P held held' printed
-Solves P held held' faults faults' status.WriteFault = Rose faults faults' × WroteFront P held held'
-Solves P held held' faults faults' status.OutOfMemory = WroteSome P held held' faults faults'
-Solves P held held' faults faults' _ = ⊥
+-- ---- a text
 
--- what comes of a file's bytes
-abbrev pub SolvesText : List ℕ → Option (List ℕ) → Option (List ℕ) → ℕ → ℕ → Status → Type 0
-SolvesText bytes held held' faults faults' (status.Finished printed) =
-    (P : List Statement) × IsProgramText (joined_text bytes) P × WroteAll P held held' printed
-SolvesText bytes held held' faults faults' status.WriteFault =
-    Rose faults faults' × ((P : List Statement) × IsProgramText (joined_text bytes) P × WroteFront P held held')
-SolvesText bytes held held' faults faults' status.OutOfMemory =
-    Keeps held held' ⊎ ((P : List Statement) × IsProgramText (joined_text bytes) P × WroteSome P held held' faults faults')
-SolvesText bytes held held' faults faults' (status.Refused (refusal.NotYet line)) = IsNotYet (joined_text bytes) line × Keeps held held'
-SolvesText bytes held held' faults faults' _ = ⊥
+-- what came of a text, by the status: there was no memory to read it, it is refused, or its program was searched
+pub data Treated (text : List ℕ) (sink : SinkChange) (trace : TraceChange) : Status → Type 0 where
+  unread : IsStill sink trace → Treated text sink trace status.OutOfMemory
+  refused : {r : Refusal} → IsRefusedText text r → IsStill sink trace → Treated text sink trace (status.Refused r)
+  searched : {s : Status} (P : List Statement) → IsProgramText text P → Searched P sink trace s → Treated text sink trace s
 
--- the counts of a shelf, before and after: faults, and bytes taken
-pub record Counts : Type 0 where
-  pub faults : ℕ
-  pub faults' : ℕ
-  pub taken : ℕ
-  pub taken' : ℕ
+-- ---- the words
 
--- what comes of the words and the told files
-abbrev pub Outcome : Told → Option (List ℕ) → Counts → Option (List ℕ) → Option (List ℕ) → ℕ → ℕ → Status → Type 0
-Outcome told (Some name) shelf held held' faults faults' (status.Finished printed) =
-    (P : List Statement) × IsProgramOf told name P × WroteAll P held held' printed
-Outcome told (Some name) shelf held held' faults faults' (status.Refused (refusal.NotYet line)) = IsNotYetOf told name line × Keeps held held'
-Outcome told (Some name) shelf held held' faults faults' (status.TextTooLong long) =
-    (long ≡ name) × RoseBy (most_bytes + 1) shelf.taken shelf.taken' × IsTooLongOf told name × Keeps held held'
-Outcome told (Some name) shelf held held' faults faults' (status.ReadFault read) = (read ≡ name) × Rose shelf.faults shelf.faults' × Keeps held held'
-Outcome told (Some name) shelf held held' faults faults' status.WriteFault =
-    Rose faults faults' × ((P : List Statement) × IsProgramOf told name P × WroteFront P held held')
-Outcome told (Some name) shelf held held' faults faults' status.OutOfMemory =
-    Keeps held held' ⊎ ((P : List Statement) × IsProgramOf told name P × WroteSome P held held' faults faults')
-Outcome told (Some name) shelf held held' faults faults' status.Usage = ⊥
-Outcome told None shelf held held' faults faults' status.Usage = Keeps held held'
-Outcome told None shelf held held' faults faults' status.OutOfMemory = Keeps held held'
-Outcome told None shelf held held' faults faults' _ = ⊥
+-- what came of the words and the told files, by the status
+pub data Outcome (told : Told) (shelf : Counts) (sink : SinkChange) (trace : TraceChange) : Option (List ℕ) → Status → Type 0 where
+  usage : IsStill sink trace → Outcome told shelf sink trace None status.Usage
+  no_memory : {asks : Option (List ℕ)} → IsStill sink trace → Outcome told shelf sink trace asks status.OutOfMemory
+  too_long :
+      {name long : List ℕ} → long ≡ name → RoseBy (most_bytes + 1) shelf.taken shelf.taken' → IsTooLongOf told name → IsStill sink trace
+      → Outcome told shelf sink trace (Some name) (status.TextTooLong long)
+  unreadable :
+      {name read : List ℕ} → read ≡ name → Rose shelf.faults shelf.faults' → IsStill sink trace
+      → Outcome told shelf sink trace (Some name) (status.ReadFault read)
+  treated :
+      {name : List ℕ} {s : Status} (bytes : List ℕ) → FileIs told name bytes → length bytes ≤ most_bytes
+      → Treated (joined_text bytes) sink trace s → Outcome told shelf sink trace (Some name) s
+
+-- ---- files that give no text
 
 -- a status that names this file, or want of memory
 abbrev pub IsReadFaultOf : List ℕ → Status → Type 0

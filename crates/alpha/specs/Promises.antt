@@ -1,14 +1,17 @@
 -- What the clauses of a run say.
 use Rattle.std.specs.Prelude.{◌≡◌, ◌⊎◌, ◌<◌, ◌≤◌, ◌+◌, ℕ, List, [], ◌∷◌, ◌++◌, length, take, Option, Some, None, IfSome}
 use Rattle.lists.specs.Lists.{Each, HasNoRepeats, concat}
-use Rattle.alpha_outside.specs.Outside.{Rose, RoseBy}
+use Rattle.alpha_outside.specs.declared.event.Event.{Event}
+use Rattle.alpha_outside.specs.Outside.{Rose, RoseBy, Journal}
 use Rattle.asp_syntax.specs.declared.tree.Statement.{Statement}
 use Rattle.asp_meaning.specs.Atoms.{Atom}
 use Rattle.asp_meaning.specs.Lines.{IsSetLine}
-use Rattle.asp_parser.specs.Grammar.{IsProgramText}
-use Rattle.asp_parser.specs.Fault.{IsNotYet}
+use Rattle.enumerator.specs.Search.{SinkChange, TraceChange}
+use Rattle.alpha.specs.TextAnswers.{IsProgramText, IsRefusedText}
 use Rattle.alpha.specs.Texts.{last_line_of, message_of}
-use Rattle.alpha.specs.declared.status.Refusal.TheVariants as refusal
+use Rattle.alpha.specs.Journals.{HasSpent}
+use Rattle.alpha.specs.declared.status.BudgetKind.TheVariants as budget
+use Rattle.alpha.specs.declared.status.Refusal.{Refusal}
 use Rattle.alpha.specs.declared.status.Status.{Status}
 use Rattle.alpha.specs.declared.status.Status.TheVariants as status
 
@@ -22,12 +25,24 @@ Told = Option (List ℕ → Option (List ℕ))
 abbrev pub most_bytes : ℕ
 most_bytes = 16777216
 
+-- the most sets that are written
+abbrev pub most_sets : ℕ
+most_sets = 1000000000
+
+-- the most nogoods that are noted as struck
+abbrev pub most_conflicts : ℕ
+most_conflicts = 1000000
+
+-- the most instances that are made
+abbrev pub most_instances : ℕ
+most_instances = 10000000
+
 -- the joined text: the file's bytes and a line feed
 abbrev pub joined_text : List ℕ → List ℕ
 joined_text bytes = bytes ++ (10 ∷ [])
 
--- the words ask for a file that is told, within its limit, and the program P
-pub record IsAccepted (asks : Option (List ℕ)) (told : Told) (P : List Statement) : Type 0 where
+-- the words ask for a file that is told, within its limit, and its joined text is so
+pub record IsRead (asks : Option (List ℕ)) (told : Told) (IsSo : List ℕ → Type 0) : Type 0 where
   pub name : List ℕ
   pub files : List ℕ → Option (List ℕ)
   pub bytes : List ℕ
@@ -35,15 +50,36 @@ pub record IsAccepted (asks : Option (List ℕ)) (told : Told) (P : List Stateme
   pub told_is : told ≡ Some files
   pub file : files name ≡ Some bytes
   pub within : length bytes ≤ most_bytes
-  pub text : IsProgramText (joined_text bytes) P
+  pub text : IsSo (joined_text bytes)
 
--- where the files are told, the file is there, within its limit, and P
+-- the words and the file are accepted, and the program is P
+abbrev pub IsAccepted : Option (List ℕ) → Told → List Statement → Type 0
+IsAccepted asks told P = IsRead asks told (λ text. IsProgramText text P)
+
+-- the words and the file are accepted, and the text is refused for this
+abbrev pub IsRefusedFile : Option (List ℕ) → Told → Refusal → Type 0
+IsRefusedFile asks told refusal = IsRead asks told (λ text. IsRefusedText text refusal)
+
+-- the words ask for this file, which is told and longer than its limit
+pub record IsOverlong (asks : Option (List ℕ)) (told : Told) (name : List ℕ) : Type 0 where
+  pub files : List ℕ → Option (List ℕ)
+  pub bytes : List ℕ
+  pub asked : asks ≡ Some name
+  pub told_is : told ≡ Some files
+  pub file : files name ≡ Some bytes
+  pub above : most_bytes < length bytes
+
+-- where the files are told, the file is there, within its limit, and its joined text is so
+abbrev pub IsTextOf : Told → List ℕ → (List ℕ → Type 0) → Type 0
+IsTextOf told name IsSo = IfSome told (λ files. (bytes : List ℕ) × (files name ≡ Some bytes) × (length bytes ≤ most_bytes) × IsSo (joined_text bytes))
+
+-- the program of the file is P
 abbrev pub IsProgramOf : Told → List ℕ → List Statement → Type 0
-IsProgramOf told name P = IfSome told (λ files. (bytes : List ℕ) × (files name ≡ Some bytes) × (length bytes ≤ most_bytes) × IsProgramText (joined_text bytes) P)
+IsProgramOf told name P = IsTextOf told name (λ text. IsProgramText text P)
 
--- where the files are told, the file is there, within its limit, and no program that is built, with this line
-abbrev pub IsNotYetOf : Told → List ℕ → ℕ → Type 0
-IsNotYetOf told name line = IfSome told (λ files. (bytes : List ℕ) × (files name ≡ Some bytes) × (length bytes ≤ most_bytes) × IsNotYet (joined_text bytes) line)
+-- the text of the file is refused for this
+abbrev pub IsRefusedOf : Told → List ℕ → Refusal → Type 0
+IsRefusedOf told name refusal = IsTextOf told name (λ text. IsRefusedText text refusal)
 
 -- where the files are told, the file is there, and longer than its limit
 abbrev pub IsTooLongOf : Told → List ℕ → Type 0
@@ -70,11 +106,22 @@ pub record IsSetLines (b : List ℕ) : Type 0 where
   pub sets : Each IsLineOfSet lines
 
 -- the lines of so many sets, and then the last line
-pub record IsFinishedOutput (printed : ℕ) (b : List ℕ) : Type 0 where
+pub record IsWholeOutput (s : Status) (printed : ℕ) (b : List ℕ) : Type 0 where
   pub lines : List (List ℕ)
-  pub bytes : b ≡ concat lines ++ last_line_of (status.Finished printed)
+  pub bytes : b ≡ concat lines ++ last_line_of s
   pub sets : Each IsLineOfSet lines
   pub count : printed ≡ length lines
+
+-- a run with this status has a last line, which says so many
+abbrev pub HasPrinted : ℕ → Status → Type 0
+HasPrinted n (status.Finished printed) = printed ≡ n
+HasPrinted n (status.LimitReached printed) = printed ≡ n
+HasPrinted n (status.BudgetSpent kind number printed) = printed ≡ n
+HasPrinted n _ = ⊥
+
+-- a last line that says so many
+abbrev pub IsLastLine : ℕ → List ℕ → Type 0
+IsLastLine printed line = (s : Status) × HasPrinted printed s × (line ≡ last_line_of s)
 
 -- whole set lines, and then a front of a set line or of the last line
 pub record IsCutOutput (b : List ℕ) : Type 0 where
@@ -83,12 +130,15 @@ pub record IsCutOutput (b : List ℕ) : Type 0 where
   pub cut : ℕ
   pub bytes : b ≡ concat lines ++ take cut next
   pub sets : Each IsLineOfSet lines
-  pub next_is : IsLineOfSet next ⊎ (next ≡ last_line_of (status.Finished (length lines)))
+  pub next_is : IsLineOfSet next ⊎ IsLastLine (length lines) next
 
 -- the bytes that a run with this status appends to the output, by its sink's count of faults before and after
 abbrev pub OutputIs : ℕ → ℕ → Status → List ℕ → Type 0
-OutputIs faults faults' (status.Finished printed) b = IsFinishedOutput printed b
+OutputIs faults faults' (status.Finished printed) b = IsWholeOutput (status.Finished printed) printed b
+OutputIs faults faults' (status.LimitReached printed) b = IsWholeOutput (status.LimitReached printed) printed b
+OutputIs faults faults' (status.BudgetSpent kind number printed) b = IsWholeOutput (status.BudgetSpent kind number printed) printed b
 OutputIs faults faults' status.WriteFault b = IsCutOutput b
+OutputIs faults faults' status.TraceFault b = IsSetLines b
 OutputIs faults faults' status.OutOfMemory b = IsSetLines b ⊎ (Rose faults faults' × IsCutOutput b)
 OutputIs faults faults' status.Usage b = b ≡ []
 OutputIs faults faults' (status.Refused r) b = b ≡ []
@@ -104,11 +154,35 @@ abbrev pub MessageIs : ℕ → ℕ → Status → List ℕ → Type 0
 MessageIs faults faults' status.OutOfMemory m = IsFront m (message_of status.OutOfMemory)
 MessageIs faults faults' s m = (m ≡ message_of s) ⊎ (Rose faults faults' × IsFront m (message_of s))
 
+-- ---- what is noted
+
+-- the trace tells its events, and these were appended; its file's name is what it was
+abbrev pub IsNoted : Option Journal → Option Journal → List Event → Type 0
+IsNoted told told' E = (before : Journal) × (told ≡ Some before) × (told' ≡ Some (record before { events = before.events ++ E }))
+
+-- where the trace tells its events, it goes on to tell them, and all that became of them is that some were appended, or none
+abbrev pub OnlyNotes : Option Journal → Option Journal → Type 0
+OnlyNotes told told' = IfSome told (λ _. (E : List Event) × IsNoted told told' E)
+
+-- where the trace tells the name of its file, it is what it was
+abbrev pub NameIsKept : Option Journal → Option Journal → Type 0
+NameIsKept told told' = IfSome told (λ before. IfSome told' (λ now. now.name ≡ before.name))
+
+-- the status of a run that searched nothing
+abbrev pub IsUnsearched : Status → Type 0
+IsUnsearched status.Usage = Unit {0}
+IsUnsearched (status.Refused r) = Unit {0}
+IsUnsearched (status.TextTooLong name) = Unit {0}
+IsUnsearched (status.ReadFault name) = Unit {0}
+IsUnsearched _ = ⊥
+
 -- ---- which status comes
 
 -- the status of a run in which nothing outside failed, and whose words and file were accepted
 abbrev pub IsEnded : Status → Type 0
 IsEnded (status.Finished printed) = Unit {0}
+IsEnded (status.LimitReached printed) = Unit {0}
+IsEnded (status.BudgetSpent kind number printed) = Unit {0}
 IsEnded status.OutOfMemory = Unit {0}
 IsEnded _ = ⊥
 
@@ -118,17 +192,35 @@ IsRefusedWords status.Usage = Unit {0}
 IsRefusedWords status.OutOfMemory = Unit {0}
 IsRefusedWords _ = ⊥
 
--- Each status but want of memory comes only by its cause: for the words, the told files, and the counts of the shelf (faults, and
--- bytes taken) and of the output's sink before and after the run.
-abbrev pub IsCaused : Option (List ℕ) → Told → (ℕ × ℕ) → (ℕ × ℕ) → (ℕ × ℕ) → Status → Type 0
-IsCaused asks told faults taken writes (status.Finished printed) =
-    (name : List ℕ) × (asks ≡ Some name) × ((P : List Statement) × IsProgramOf told name P)
-IsCaused asks told faults taken writes status.Usage = asks ≡ None
-IsCaused asks told faults taken writes (status.Refused (refusal.NotYet line)) =
-    (name : List ℕ) × (asks ≡ Some name) × IsNotYetOf told name line
-IsCaused asks told faults taken writes (status.TextTooLong long) =
-    (asks ≡ Some long) × RoseBy (most_bytes + 1) taken.0 taken.1 × IsTooLongOf told long
-IsCaused asks told faults taken writes (status.ReadFault name) = (asks ≡ Some name) × Rose faults.0 faults.1
-IsCaused asks told faults taken writes status.WriteFault =
-    Rose writes.0 writes.1 × ((name : List ℕ) × (asks ≡ Some name) × ((P : List Statement) × IsProgramOf told name P))
-IsCaused asks told faults taken writes status.OutOfMemory = Unit {0}
+-- the status is this one, or there was no memory
+abbrev pub Gives : Status → Status → Type 0
+Gives s wanted = (s ≡ wanted) ⊎ (s ≡ status.OutOfMemory)
+
+-- the counts of a shelf, before and after: faults, and bytes taken
+pub record Counts : Type 0 where
+  pub faults : ℕ
+  pub faults' : ℕ
+  pub taken : ℕ
+  pub taken' : ℕ
+
+-- the words ask for a file, and where the files are told, it is that of some program
+abbrev pub IsOfProgram : Option (List ℕ) → Told → Type 0
+IsOfProgram asks told = (name : List ℕ) × (asks ≡ Some name) × ((P : List Statement) × IsProgramOf told name P)
+
+-- Each status but want of memory comes only by its cause: for the words, the told files, and the shelf, the output's sink and the trace
+-- before and after the run. A search that ends by itself reaches the limit exactly where it wrote as many sets. No budget of instances
+-- can be spent, since a file that may be read has fewer statements.
+abbrev pub IsCaused : Option (List ℕ) → Told → Counts → SinkChange → TraceChange → Status → Type 0
+IsCaused asks told shelf sink trace (status.Finished printed) = (printed < most_sets) × IsOfProgram asks told
+IsCaused asks told shelf sink trace (status.LimitReached printed) = (printed ≡ most_sets) × IsOfProgram asks told
+IsCaused asks told shelf sink trace (status.BudgetSpent budget.Conflicts number printed) =
+    (printed < most_sets) × (number ≡ most_conflicts) × ((name : List ℕ) × (asks ≡ Some name) × ((P : List Statement) × IsProgramOf told name P × HasSpent P trace number))
+IsCaused asks told shelf sink trace (status.BudgetSpent budget.Instances number printed) = ⊥
+IsCaused asks told shelf sink trace status.Usage = asks ≡ None
+IsCaused asks told shelf sink trace (status.Refused refusal) = (name : List ℕ) × (asks ≡ Some name) × IsRefusedOf told name refusal
+IsCaused asks told shelf sink trace (status.TextTooLong long) =
+    (asks ≡ Some long) × RoseBy (most_bytes + 1) shelf.taken shelf.taken' × IsTooLongOf told long
+IsCaused asks told shelf sink trace (status.ReadFault name) = (asks ≡ Some name) × Rose shelf.faults shelf.faults'
+IsCaused asks told shelf sink trace status.WriteFault = Rose sink.faults sink.faults' × IsOfProgram asks told
+IsCaused asks told shelf sink trace status.TraceFault = Rose trace.faults trace.faults' × IsOfProgram asks told
+IsCaused asks told shelf sink trace status.OutOfMemory = Unit {0}

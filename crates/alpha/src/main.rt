@@ -1,10 +1,12 @@
 //! Alpha reads answer set programs with variables and prints their answer sets.
 #![tactic(auto)]
 
+mod built;
 mod run;
 mod status;
 #[cfg(test)]
 mod tests;
+mod text;
 mod words;
 
 use alpha_outside::{DirShelf, NoTrace, StdSink};

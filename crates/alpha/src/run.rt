@@ -1,38 +1,85 @@
-//! The whole of what the program does: words and files in, bytes and a status out.
+//! The whole of what the program does: words and files in, bytes, events and a status out.
 
-ghost use Rattle.std.specs.Prelude.{◌≡◌, ◌⊎◌, ◌≤◌, None, true, map, string_bytes, ℕ, List, length, IfSome};
+ghost use Rattle.std.specs.Prelude.{◌≡◌, ◌⊎◌, ◌≤◌, None, true, map, string_bytes, ℕ, List, [], length};
 ghost use Rattle.lists.specs.Lists.{Each, HasNoRepeats};
+ghost use Rattle.alpha_outside.specs.declared.event.Event.{Event};
 ghost use Rattle.alpha_outside.specs.Outside.{Rose};
 ghost use Rattle.asp_syntax.specs.declared.tree.Statement.{Statement as Rule};
-ghost use Rattle.asp_meaning.specs.Horn.{IsHorn};
 ghost use Rattle.asp_meaning.specs.Output.{set_lines, IsAnswerSetLine, HaveAll};
+ghost use Rattle.search_theory.specs.Journals.{IsLegal};
+ghost use Rattle.plain_rules.specs.Plain.{IsPlainProgram};
+ghost use Rattle.plain_rules.specs.Rules.{plain_rules};
 ghost use Rattle.alpha.specs.Words.{asked};
 ghost use Rattle.alpha.specs.Texts.{has_message};
-ghost use Rattle.alpha.specs.Promises.{IsAccepted, IsAppended, OnlyAppends, OutputIs, MessageIs, IsEnded, IsRefusedWords, IsCaused};
-ghost use Rattle.alpha.specs.Outcomes.{Counts, Outcome, Solves, SolvesText, IsReadFaultOf, IsTextTooLongOf};
+ghost use Rattle.alpha.specs.Journals.{LinesAre, AreSpent};
+ghost use Rattle.alpha.specs.Promises.{IsAccepted, IsRefusedFile, IsOverlong, IsAppended, OnlyAppends, OutputIs, MessageIs, IsNoted, OnlyNotes, NameIsKept};
+ghost use Rattle.alpha.specs.Promises.{IsUnsearched, IsEnded, IsRefusedWords, IsCaused, Gives, Counts, joined_text};
+ghost use Rattle.alpha.specs.Outcomes.{Searched, Treated, Outcome, defaults, status_of, IsReadFaultOf, IsTextTooLongOf};
+ghost use Rattle.alpha.specs.declared.status.Refusal.{Refusal as Reason};
 
-use crate::status::{Refusal, Status, last_line, message};
+use crate::status::{BudgetKind, Status, last_line, message};
+use crate::text::read_text;
 use crate::words::asked;
 use alpha_outside::{Name, ReadStop, Shelf, Sink, SinkStop, Trace};
-use asp_parser::{TextFault, parse_text};
 use asp_syntax::Program;
-use enumerator::{End, SearchFault, search_plain};
+use enumerator::{End, SearchFault, Settings, search_plain};
 use std::alloc::Global;
 
 /// The most bytes that the program's file may have.
 const MOST_BYTES: usize = 16_777_216;
 
-// Writes the answer sets and the last line.
-fn solve<O: Sink>(alloc: Global, program: Program, out: &mut O) -> Status
-    requires { Each IsHorn program.statements }
-    ensures later { O.faults out.old ≤ O.faults out.new }
-    ensures solves { Solves program.statements (O.held out.old) (O.held out.new) (O.faults out.old) (O.faults out.new) result }
+/// The most answer sets that are written.
+const MOST_SETS: u64 = 1_000_000_000;
+
+/// The most nogoods that are noted as struck.
+const MOST_CONFLICTS: u64 = 1_000_000;
+
+/// The most instances that are made.
+const MOST_INSTANCES: u64 = 10_000_000;
+
+// How far a search may go where no word says otherwise.
+fn default_settings() -> Settings
+    ensures { result ≡ defaults }
 {
-    let status = match search_plain(alloc, program, out) {
-        Ok(End::Finished { printed }) => Status::Finished { printed },
+    Settings {
+        limit: MOST_SETS,
+        conflicts: MOST_CONFLICTS,
+        instances: MOST_INSTANCES,
+    }
+}
+
+// The status of a search with these settings that ended by itself.
+fn ended(end: End) -> Status
+    ensures { result ≡ status_of end }
+{
+    match end {
+        End::Finished { printed } => Status::Finished { printed },
+        End::LimitReached { printed } => Status::LimitReached { printed },
+        End::Conflicts { printed } => Status::BudgetSpent {
+            budget: BudgetKind::Conflicts,
+            number: MOST_CONFLICTS,
+            printed,
+        },
+    }
+}
+
+// Writes the answer sets and the last line, and notes the events.
+fn solve<O: Sink, T: Trace>(alloc: Global, program: Program, out: &mut O, trace: &mut T) -> Status
+    requires { IsPlainProgram program.statements }
+    ensures out_later { O.faults out.old ≤ O.faults out.new }
+    ensures trace_later { T.faults trace.old ≤ T.faults trace.new }
+    ensures searched { Searched program.statements
+        (record { held = O.held out.old; held' = O.held out.new; faults = O.faults out.old; faults' = O.faults out.new })
+        (record { told = T.journal trace.old; told' = T.journal trace.new; faults = T.faults trace.old; faults' = T.faults trace.new })
+        result }
+{
+    let end = match search_plain(alloc, program, default_settings(), out, trace) {
+        Ok(end) => end,
         Err(SearchFault::WriteFault) => return Status::WriteFault,
+        Err(SearchFault::TraceFault) => return Status::TraceFault,
         Err(SearchFault::OutOfMemory) => return Status::OutOfMemory,
     };
+    let status = ended(end);
     let Ok(line) = last_line(alloc, &status) else {
         return Status::OutOfMemory;
     };
@@ -62,35 +109,50 @@ fn text_too_long(alloc: Global, name: &[u8]) -> Status
 }
 
 // Solves the program of a file.
-fn solve_text<O: Sink>(alloc: Global, bytes: Vec<u8>, out: &mut O) -> Status
+fn solve_text<O: Sink, T: Trace>(
+    alloc: Global,
+    bytes: Vec<u8>,
+    out: &mut O,
+    trace: &mut T,
+) -> Status
     requires { length bytes.items ≤ 16777216 }
-    ensures later { O.faults out.old ≤ O.faults out.new }
-    ensures solves { SolvesText bytes.items (O.held out.old) (O.held out.new) (O.faults out.old) (O.faults out.new) result }
+    ensures out_later { O.faults out.old ≤ O.faults out.new }
+    ensures trace_later { T.faults trace.old ≤ T.faults trace.new }
+    ensures treated { Treated (joined_text bytes.items)
+        (record { held = O.held out.old; held' = O.held out.new; faults = O.faults out.old; faults' = O.faults out.new })
+        (record { told = T.journal trace.old; told' = T.journal trace.new; faults = T.faults trace.old; faults' = T.faults trace.new })
+        result }
 {
     let mut text = bytes;
     if text.push(b'\n').is_err() {
         return Status::OutOfMemory;
     }
-    match parse_text(alloc, &text) {
-        Ok(program) => solve(alloc, program, out),
-        Err(TextFault::NotYet { line }) => Status::Refused(Refusal::NotYet { line }),
-        Err(TextFault::OutOfMemory) => Status::OutOfMemory,
+    match read_text(alloc, &text) {
+        Ok(program) => solve(alloc, program, out, trace),
+        Err(status) => status,
     }
 }
 
 // Does what the words ask for, but for the message.
-fn work<F: Shelf, O: Sink>(alloc: Global, words: &[String], shelf: &mut F, out: &mut O) -> Status
-    ensures later { O.faults out.old ≤ O.faults out.new }
+fn work<F: Shelf, O: Sink, T: Trace>(
+    alloc: Global,
+    words: &[String],
+    shelf: &mut F,
+    out: &mut O,
+    trace: &mut T,
+) -> Status
     ensures kept { F.files shelf.new ≡ F.files shelf.old }
-    ensures outcome { Outcome (F.files shelf.old) (asked (map string_bytes words.now))
+    ensures outcome { Outcome (F.files shelf.old)
         (record { faults = F.faults shelf.old; faults' = F.faults shelf.new; taken = F.taken shelf.old; taken' = F.taken shelf.new })
-        (O.held out.old) (O.held out.new) (O.faults out.old) (O.faults out.new) result }
+        (record { held = O.held out.old; held' = O.held out.new; faults = O.faults out.old; faults' = O.faults out.new })
+        (record { told = T.journal trace.old; told' = T.journal trace.new; faults = T.faults trace.old; faults' = T.faults trace.new })
+        (asked (map string_bytes words.now)) result }
 {
     let Some(name) = asked(words) else {
         return Status::Usage;
     };
     match shelf.read(alloc, name, MOST_BYTES) {
-        Ok(bytes) => solve_text(alloc, bytes, out),
+        Ok(bytes) => solve_text(alloc, bytes, out, trace),
         Err(ReadStop::Failed) => read_fault(alloc, name),
         Err(ReadStop::TooLong) => text_too_long(alloc, name),
         Err(ReadStop::OutOfMemory) => Status::OutOfMemory,
@@ -116,10 +178,10 @@ fn report<E: Sink>(alloc: Global, status: Status, err: &mut E) -> Status
     }
 }
 
-/// Does all that the program does: reads the words and the file, writes each answer set as it is found and a last line to `out`, or
-/// a message to `err`, and says how it ended.
+/// Does all that the program does: reads the words and the file, notes each event of the search to `trace`, writes each answer set as
+/// it is found and a last line to `out`, or a message to `err`, and says how it ended.
 ///
-/// The words don't contain the program's own name. No event is noted yet.
+/// The words don't contain the program's own name.
 pub fn run<F: Shelf, O: Sink, E: Sink, T: Trace>(
     alloc: Global,
     words: &[String],
@@ -140,23 +202,52 @@ pub fn run<F: Shelf, O: Sink, E: Sink, T: Trace>(
     ensures finished_is_complete { (P : List Rule) (b : List ℕ) (printed : ℕ) → IsAccepted (asked (map string_bytes words.now)) (F.files shelf.old) P
         → IsAppended (O.held out.old) (O.held out.new) b → result ≡ Status.Finished printed → HaveAll P (set_lines b) }
 
+    // The events are a legal journal of the program: what a lawful search may note. So each instance was made when its positive atoms
+    // were true or had to be.
+    ensures journal_is_legal { (P : List Rule) (E : List Event) → IsAccepted (asked (map string_bytes words.now)) (F.files shelf.old) P
+        → IsNoted (T.journal trace.old) (T.journal trace.new) E → IsLegal (plain_rules P) [] E }
+
+    // The set lines are those of the sets of the `Shown` events, in order; after a fault or want of memory there may be one more.
+    ensures lines_are_shown_events { (P : List Rule) (b : List ℕ) (E : List Event) → IsAccepted (asked (map string_bytes words.now)) (F.files shelf.old) P
+        → IsAppended (O.held out.old) (O.held out.new) b → IsNoted (T.journal trace.old) (T.journal trace.new) E
+        → LinesAre P result E (set_lines b) }
+
+    // Where the budget of conflicts is spent, so many nogoods were struck, and one more is.
+    ensures budget_is_spent { (P : List Rule) (E : List Event) (number printed : ℕ) → IsAccepted (asked (map string_bytes words.now)) (F.files shelf.old) P
+        → IsNoted (T.journal trace.old) (T.journal trace.new) E → result ≡ Status.BudgetSpent BudgetKind.Conflicts number printed
+        → AreSpent P E number }
+
     // What was written, byte for byte, at every status and whatever the file; what stood there before stays.
     ensures output_is_appended { OnlyAppends (O.held out.old) (O.held out.new) }
     ensures output_bytes { (b : List ℕ) → IsAppended (O.held out.old) (O.held out.new) b → OutputIs (O.faults out.old) (O.faults out.new) result b }
 
-    // The message, byte for byte, and nothing is named to the trace or noted.
+    // The events are appended to those before, and where nothing is searched there are none.
+    ensures events_are_appended { OnlyNotes (T.journal trace.old) (T.journal trace.new) }
+    ensures nothing_is_noted { IsUnsearched result → T.journal trace.new ≡ T.journal trace.old }
+
+    // The message, byte for byte, and nothing is named to the trace.
     ensures message_is_appended { OnlyAppends (E.held err.old) (E.held err.new) }
-    ensures message_and_trace_name { (m : List ℕ) → IsAppended (E.held err.old) (E.held err.new) m → MessageIs (E.faults err.old) (E.faults err.new) result m }
-    ensures trace_is_unchanged { T.journal trace.new ≡ T.journal trace.old }
+    ensures message_and_trace_name { ((m : List ℕ) → IsAppended (E.held err.old) (E.held err.new) m → MessageIs (E.faults err.old) (E.faults err.new) result m)
+        × NameIsKept (T.journal trace.old) (T.journal trace.new) }
     ensures files_are_unchanged { F.files shelf.new ≡ F.files shelf.old }
 
     // Each status by its cause.
-    ensures causes { IsCaused (asked (map string_bytes words.now)) (F.files shelf.old) (F.faults shelf.old, F.faults shelf.new)
-        (F.taken shelf.old, F.taken shelf.new) (O.faults out.old, O.faults out.new) result }
+    ensures causes { IsCaused (asked (map string_bytes words.now)) (F.files shelf.old)
+        (record { faults = F.faults shelf.old; faults' = F.faults shelf.new; taken = F.taken shelf.old; taken' = F.taken shelf.new })
+        (record { held = O.held out.old; held' = O.held out.new; faults = O.faults out.old; faults' = O.faults out.new })
+        (record { told = T.journal trace.old; told' = T.journal trace.new; faults = T.faults trace.old; faults' = T.faults trace.new })
+        result }
     ensures refused_words { asked (map string_bytes words.now) ≡ None → IsRefusedWords result }
+
+    // A file that is too long ends so, a text that is refused too, and an accepted one as a search that nothing stopped.
+    ensures each_too_long { (name : List ℕ) → IsOverlong (asked (map string_bytes words.now)) (F.files shelf.old) name
+        → ¬ Rose (F.faults shelf.old) (F.faults shelf.new) → Gives result (Status.TextTooLong name) }
+    ensures each_refusal { (reason : Reason) → IsRefusedFile (asked (map string_bytes words.now)) (F.files shelf.old) reason
+        → ¬ Rose (F.faults shelf.old) (F.faults shelf.new) → Gives result (Status.Refused reason) }
     ensures accepted_ends { (P : List Rule) → IsAccepted (asked (map string_bytes words.now)) (F.files shelf.old) P
-        → ¬ Rose (F.faults shelf.old) (F.faults shelf.new) → ¬ Rose (O.faults out.old) (O.faults out.new) → IsEnded result }
+        → ¬ Rose (F.faults shelf.old) (F.faults shelf.new) → ¬ Rose (O.faults out.old) (O.faults out.new)
+        → ¬ Rose (T.faults trace.old) (T.faults trace.new) → IsEnded result }
 {
-    let status = work(alloc, words, shelf, out);
+    let status = work(alloc, words, shelf, out, trace);
     report(alloc, status, err)
 }

@@ -1,32 +1,69 @@
 //! How a run ends, and what is written of it.
 
 ghost use Rattle.std.specs.Prelude.{◌≡◌, ◌++◌, IfOk, string_bytes};
-ghost use Rattle.alpha.specs.Texts.{code_of, finished_line, last_line_of, around, refusal_message, has_message, message_of};
+ghost use Rattle.alpha.specs.Texts.{code_of, finished_line, limit_line, budget_line, last_line_of, around, placed, refusal_message, has_message, message_of};
 
 use alpha_outside::{List, Name, OutOfMemory};
+use asp_syntax::{Place, What};
 use std::alloc::Global;
 
-/// Why a text was refused.
+/// Why a text was refused. A place is a byte offset into the joined text, and lines are counted from 1.
 #[derive(Debug, Drop)]
 pub enum Refusal {
-    /// The text has a form that isn't built yet. Lines are counted from 1.
+    /// Here the first bytes begin that are no token, blank or comment.
+    Lex { at: Place },
+    /// A number that no integer of 64 bits is begins here.
+    NumberTooLarge { at: Place },
+    /// With this token no program goes on; or the text ends here, and is no program.
+    Syntax { at: Place },
+    /// With this token the nesting passes 200.
+    TooDeep { at: Place },
+    /// This token belongs to a construct of other dialects.
+    Unsupported { at: Place, what: What },
+    /// The first statement that isn't built yet stands on this line.
     NotYet { line: u32 },
 }
 
-/// How a run ended.
+/// What a search may use up.
+#[derive(Clone, Copy, Debug, PartialEq, Eq)]
+pub enum BudgetKind {
+    /// Nogoods that are noted as struck.
+    Conflicts,
+    /// Instances that are made.
+    Instances,
+}
+
+/// How a run ended. `printed` is how many answer sets were written.
 #[derive(Debug, Drop)]
 pub enum Status {
-    /// All answer sets were written; `printed` is how many.
-    Finished { printed: u64 },
+    /// All answer sets were written.
+    Finished {
+        printed: u64,
+    },
     /// The words are refused.
     Usage,
     Refused(Refusal),
     /// The file of this name has more bytes than it may have.
-    TextTooLong { name: Name },
+    TextTooLong {
+        name: Name,
+    },
     /// The file of this name can't be read.
-    ReadFault { name: Name },
+    ReadFault {
+        name: Name,
+    },
     WriteFault,
+    TraceFault,
     OutOfMemory,
+    /// As many sets were written as the limit allows.
+    LimitReached {
+        printed: u64,
+    },
+    /// As much was done as this budget allows, which is `number`, and the search would have to go on.
+    BudgetSpent {
+        budget: BudgetKind,
+        number: u64,
+        printed: u64,
+    },
 }
 
 impl Status {
@@ -41,7 +78,10 @@ impl Status {
             Status::TextTooLong { .. } => 5,
             Status::ReadFault { .. } => 6,
             Status::WriteFault => 7,
+            Status::TraceFault => 8,
             Status::OutOfMemory => 9,
+            Status::LimitReached { .. } => 10,
+            Status::BudgetSpent { .. } => 11,
         }
     }
 
@@ -49,7 +89,12 @@ impl Status {
     pub fn has_message(&self) -> bool
         ensures { result ≡ has_message self.now }
     {
-        !matches!(self, Status::Finished { .. })
+        match self {
+            Status::Finished { .. } => false,
+            Status::LimitReached { .. } => false,
+            Status::BudgetSpent { .. } => false,
+            _ => true,
+        }
     }
 }
 
@@ -65,11 +110,47 @@ fn around(alloc: Global, before: &[u8], name: &[u8], after: &[u8]) -> Result<Lis
     Ok(List::from_vec(text))
 }
 
+// The line of a run that wrote all answer sets.
 fn finished_line(alloc: Global, printed: u64) -> Result<List<u8>, OutOfMemory>
     ensures { IfOk result (λ l. l ≡ finished_line printed) }
 {
     let text = format!(in alloc; "% complete, {printed} printed\n")?;
     Ok(List::from_slice(alloc, text.as_bytes())?)
+}
+
+fn limit_line(alloc: Global, printed: u64) -> Result<List<u8>, OutOfMemory>
+    ensures { IfOk result (λ l. l ≡ limit_line printed) }
+{
+    let text = format!(in alloc; "% limit, {printed} printed\n")?;
+    Ok(List::from_slice(alloc, text.as_bytes())?)
+}
+
+fn conflicts_line(alloc: Global, number: u64, printed: u64) -> Result<List<u8>, OutOfMemory>
+    ensures { IfOk result (λ l. l ≡ budget_line BudgetKind.Conflicts number printed) }
+{
+    let text = format!(in alloc; "% budget conflicts {number}, {printed} printed\n")?;
+    Ok(List::from_slice(alloc, text.as_bytes())?)
+}
+
+fn instances_line(alloc: Global, number: u64, printed: u64) -> Result<List<u8>, OutOfMemory>
+    ensures { IfOk result (λ l. l ≡ budget_line BudgetKind.Instances number printed) }
+{
+    let text = format!(in alloc; "% budget instances {number}, {printed} printed\n")?;
+    Ok(List::from_slice(alloc, text.as_bytes())?)
+}
+
+fn budget_line(
+    alloc: Global,
+    budget: BudgetKind,
+    number: u64,
+    printed: u64,
+) -> Result<List<u8>, OutOfMemory>
+    ensures { IfOk result (λ l. l ≡ budget_line budget number printed) }
+{
+    match budget {
+        BudgetKind::Conflicts => conflicts_line(alloc, number, printed),
+        BudgetKind::Instances => instances_line(alloc, number, printed),
+    }
 }
 
 /// The last line on the output, with its line feed, or nothing where the status has none.
@@ -78,18 +159,45 @@ pub fn last_line(alloc: Global, status: &Status) -> Result<List<u8>, OutOfMemory
 {
     match status {
         Status::Finished { printed } => finished_line(alloc, *printed),
+        Status::LimitReached { printed } => limit_line(alloc, *printed),
+        Status::BudgetSpent {
+            budget,
+            number,
+            printed,
+        } => budget_line(alloc, *budget, *number, *printed),
         _ => Ok(List::new(alloc)),
     }
+}
+
+// A text and a place behind it, and a line feed.
+fn placed(alloc: Global, before: &[u8], at: Place) -> Result<List<u8>, OutOfMemory>
+    ensures { IfOk result (λ l. l ≡ placed before.now at.0) }
+{
+    let place = at.0;
+    let end = format!(in alloc; "{place}\n")?;
+    let mut text = Vec::new(alloc);
+    text.extend_from_slice(before)?;
+    text.extend_from_slice(end.as_bytes())?;
+    Ok(List::from_vec(text))
+}
+
+fn unbuilt_message(alloc: Global, line: u32) -> Result<List<u8>, OutOfMemory>
+    ensures { IfOk result (λ l. l ≡ refusal_message (Refusal.NotYet line)) }
+{
+    let text = format!(in alloc; "alpha: line {line}: not built yet\n")?;
+    Ok(List::from_slice(alloc, text.as_bytes())?)
 }
 
 fn refusal_message(alloc: Global, refusal: &Refusal) -> Result<List<u8>, OutOfMemory>
     ensures { IfOk result (λ l. l ≡ refusal_message refusal.now) }
 {
     match refusal {
-        Refusal::NotYet { line } => {
-            let text = format!(in alloc; "alpha: line {line}: not built yet\n")?;
-            Ok(List::from_slice(alloc, text.as_bytes())?)
-        }
+        Refusal::Lex { at } => placed(alloc, b"alpha: unreadable at byte ", *at),
+        Refusal::NumberTooLarge { at } => placed(alloc, b"alpha: number too large at byte ", *at),
+        Refusal::Syntax { at } => placed(alloc, b"alpha: syntax fault at byte ", *at),
+        Refusal::TooDeep { at } => placed(alloc, b"alpha: nested too deep at byte ", *at),
+        Refusal::Unsupported { at, .. } => placed(alloc, b"alpha: unsupported at byte ", *at),
+        Refusal::NotYet { line } => unbuilt_message(alloc, *line),
     }
 }
 
@@ -103,11 +211,14 @@ pub fn message(alloc: Global, status: &Status) -> Result<List<u8>, OutOfMemory>
 {
     match status {
         Status::Finished { .. } => Ok(List::new(alloc)),
+        Status::LimitReached { .. } => Ok(List::new(alloc)),
+        Status::BudgetSpent { .. } => Ok(List::new(alloc)),
         Status::Usage => Ok(List::from_slice(alloc, USAGE)?),
         Status::Refused(refusal) => refusal_message(alloc, refusal),
         Status::TextTooLong { name } => around(alloc, b"alpha: ", name.as_bytes(), b" is too long"),
         Status::ReadFault { name } => around(alloc, b"alpha: cannot read ", name.as_bytes(), b""),
         Status::WriteFault => Ok(List::from_slice(alloc, b"alpha: cannot write\n")?),
+        Status::TraceFault => Ok(List::from_slice(alloc, b"alpha: cannot write the trace\n")?),
         Status::OutOfMemory => Ok(List::from_slice(alloc, b"alpha: out of memory\n")?),
     }
 }

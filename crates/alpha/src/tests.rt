@@ -1,15 +1,18 @@
 use crate::run::run;
-use alpha_outside::{List, MemShelf, MemSink, NoTrace};
+use crate::status::{BudgetKind, Status, last_line};
+use alpha_outside::{Event, List, MemShelf, MemSink, MemTrace};
 use std::alloc::Global;
 use std::test::Fail;
 
-// One run: its words with blanks between them, the one file, and which writes to the output fail, having taken how much.
+// One run: its words with blanks between them, the one file, which writes to the output fail, having taken how much, and which notes
+// to the trace fail.
 #[derive(Clone, Copy)]
 struct Case<'a> {
     words: &'a str,
     file: (&'a [u8], &'a [u8]),
     failing: &'a [u64],
     cut: usize,
+    untraced: &'a [u64],
 }
 
 fn owned(alloc: Global, words: &str) -> Result<Vec<String>, Fail> {
@@ -23,18 +26,27 @@ fn owned(alloc: Global, words: &str) -> Result<Vec<String>, Fail> {
     Ok(all)
 }
 
-// The code, the bytes of the output and those of the messages.
+// How many sets the trace was told of.
+fn shown(events: &[Event]) -> usize {
+    events
+        .iter()
+        .filter(|event| matches!(event, Event::Shown { .. }))
+        .count()
+}
+
+// The code, the bytes of the output, those of the messages, and how many sets the trace was told of.
 fn ran(alloc: Global, case: &Case<'_>) -> Result<String, Fail> {
     let words = owned(alloc, case.words)?;
     let mut shelf = MemShelf::new(alloc, List::new(alloc));
     shelf.add(alloc, case.file.0, case.file.1)?;
     let mut out = MemSink::new(alloc, List::from_slice(alloc, case.failing)?, case.cut);
     let mut err = MemSink::new(alloc, List::new(alloc), 0);
-    let mut trace = NoTrace;
+    let mut trace = MemTrace::new(alloc, List::from_slice(alloc, case.untraced)?);
     let status = run(alloc, &words, &mut shelf, &mut out, &mut err, &mut trace);
     let bytes = std::str::from_utf8(out.bytes()).unwrap_or("no text");
     let message = std::str::from_utf8(err.bytes()).unwrap_or("no text");
-    Ok(format!(in alloc; "{} {bytes}|{message}", status.code())?)
+    let sets = shown(trace.events());
+    Ok(format!(in alloc; "{} {bytes}|{message}|{sets}", status.code())?)
 }
 
 fn solved(alloc: Global, text: &[u8]) -> Result<String, Fail> {
@@ -45,6 +57,7 @@ fn solved(alloc: Global, text: &[u8]) -> Result<String, Fail> {
             file: (b"p.lp", text),
             failing: &[],
             cut: 0,
+            untraced: &[],
         },
     )
 }
@@ -52,31 +65,21 @@ fn solved(alloc: Global, text: &[u8]) -> Result<String, Fail> {
 #[test]
 fn programs_and_their_answer_sets(rt: HostRuntime) -> Result<(), Fail> {
     let rows = [
-        (b"".as_slice(), "0 {}\n% complete, 1 printed\n|"),
+        (b"".as_slice(), "0 {}\n% complete, 1 printed\n||1"),
         (
             b"b. a :- b. c :- d.".as_slice(),
-            "0 {a, b}\n% complete, 1 printed\n|",
+            "0 {a, b}\n% complete, 1 printed\n||1",
         ),
-        (b"b. :- b.".as_slice(), "0 % complete, 0 printed\n|"),
-        (
-            b"a :- b. b :- a.".as_slice(),
-            "0 {}\n% complete, 1 printed\n|",
-        ),
-        (b":- .".as_slice(), "0 % complete, 0 printed\n|"),
+        (b"b. :- b.".as_slice(), "0 % complete, 0 printed\n||0"),
+        (b":- .".as_slice(), "0 % complete, 0 printed\n||0"),
         (
             b"a :- b, c. c :- b. b. :- d.".as_slice(),
-            "0 {a, b, c}\n% complete, 1 printed\n|",
+            "0 {a, b, c}\n% complete, 1 printed\n||1",
         ),
         (
             b"z. y10. y1. y2. y1 :- z.".as_slice(),
-            "0 {y1, y10, y2, z}\n% complete, 1 printed\n|",
+            "0 {y1, y10, y2, z}\n% complete, 1 printed\n||1",
         ),
-        (b"X.".as_slice(), "3 |alpha: line 1: not built yet\n"),
-        (
-            b"a.\na :- not b.".as_slice(),
-            "3 |alpha: line 2: not built yet\n",
-        ),
-        (b"a :- b".as_slice(), "3 |alpha: line 2: not built yet\n"),
     ];
     for (text, want) in rows {
         assert_eq!(rt; solved(rt.alloc(), text)?.as_str(), want);
@@ -85,9 +88,112 @@ fn programs_and_their_answer_sets(rt: HostRuntime) -> Result<(), Fail> {
 }
 
 #[test]
+fn what_supports_itself_alone_is_in_no_set(rt: HostRuntime) -> Result<(), Fail> {
+    let rows = [
+        (
+            b"a :- b. b :- a.".as_slice(),
+            "0 {}\n% complete, 1 printed\n||1",
+        ),
+        (b"a :- not a.".as_slice(), "0 % complete, 0 printed\n||0"),
+        (
+            b"a :- b. b :- a. :- not a.".as_slice(),
+            "0 % complete, 0 printed\n||0",
+        ),
+        (
+            b"% a rule with `not`\na :- not b.".as_slice(),
+            "0 {a}\n% complete, 1 printed\n||1",
+        ),
+    ];
+    for (text, want) in rows {
+        assert_eq!(rt; solved(rt.alloc(), text)?.as_str(), want);
+    }
+    Ok(())
+}
+
+#[test]
+fn each_of_two_blocks_the_other(rt: HostRuntime) -> Result<(), Fail> {
+    let got = solved(rt.alloc(), b"a :- not b. b :- not a.")?;
+    let got = got.as_str();
+    assert!(rt;
+        got == "0 {a}\n{b}\n% complete, 2 printed\n||2"
+            || got == "0 {b}\n{a}\n% complete, 2 printed\n||2"
+    );
+    Ok(())
+}
+
+#[test]
+fn texts_that_are_refused_by_place(rt: HostRuntime) -> Result<(), Fail> {
+    let rows = [
+        (b"a :- b".as_slice(), "3 |alpha: syntax fault at byte 7\n|0"),
+        (
+            b"a :- b c.".as_slice(),
+            "3 |alpha: syntax fault at byte 7\n|0",
+        ),
+        (b"X.".as_slice(), "3 |alpha: syntax fault at byte 1\n|0"),
+        (b"a | b.".as_slice(), "3 |alpha: unsupported at byte 2\n|0"),
+        (
+            b"p(1..3).".as_slice(),
+            "3 |alpha: unsupported at byte 3\n|0",
+        ),
+        (b"a ! b.".as_slice(), "3 |alpha: unreadable at byte 2\n|0"),
+        (b"p(\"x".as_slice(), "3 |alpha: unreadable at byte 2\n|0"),
+        (
+            b"p(9223372036854775808).".as_slice(),
+            "3 |alpha: number too large at byte 2\n|0",
+        ),
+        (
+            b"p(9223372036854775809).".as_slice(),
+            "3 |alpha: number too large at byte 2\n|0",
+        ),
+    ];
+    for (text, want) in rows {
+        assert_eq!(rt; solved(rt.alloc(), text)?.as_str(), want);
+    }
+    Ok(())
+}
+
+#[test]
+fn forms_that_are_not_built_are_refused_by_line(rt: HostRuntime) -> Result<(), Fail> {
+    let rows = [
+        (b"p(1).".as_slice(), "3 |alpha: line 1: not built yet\n|0"),
+        (
+            b"a.\nb :- a,\n  p(X).\n-c.".as_slice(),
+            "3 |alpha: line 2: not built yet\n|0",
+        ),
+        (b"\n-a.".as_slice(), "3 |alpha: line 2: not built yet\n|0"),
+        (b"{a}.".as_slice(), "3 |alpha: line 1: not built yet\n|0"),
+        (
+            b"a :- 1 < 2.".as_slice(),
+            "3 |alpha: line 1: not built yet\n|0",
+        ),
+        (
+            b"a :- #count{X : p(X)} > 0.".as_slice(),
+            "3 |alpha: line 1: not built yet\n|0",
+        ),
+    ];
+    for (text, want) in rows {
+        assert_eq!(rt; solved(rt.alloc(), text)?.as_str(), want);
+    }
+    Ok(())
+}
+
+#[test]
+fn nesting_has_a_limit(rt: HostRuntime) -> Result<(), Fail> {
+    let alloc = rt.alloc();
+    let mut text = Vec::new(alloc);
+    text.push(b'p')?;
+    text.resize(202, b'(')?;
+    assert_eq!(rt;
+        solved(alloc, &text)?.as_str(),
+        "3 |alpha: nested too deep at byte 201\n|0"
+    );
+    Ok(())
+}
+
+#[test]
 fn words_that_are_refused(rt: HostRuntime) -> Result<(), Fail> {
     let usage =
-        "2 |alpha: usage: alpha solve [--after FILE] [--limit N] [--conflicts N] [--instances N] [--trace FILE] FILE... or alpha sample SEED N\n";
+        "2 |alpha: usage: alpha solve [--after FILE] [--limit N] [--conflicts N] [--instances N] [--trace FILE] FILE... or alpha sample SEED N\n|0";
     let rows = [
         "",
         "solve",
@@ -105,6 +211,7 @@ fn words_that_are_refused(rt: HostRuntime) -> Result<(), Fail> {
             file: (b"p.lp", b"a."),
             failing: &[],
             cut: 0,
+            untraced: &[],
         };
         assert_eq!(rt; ran(rt.alloc(), &case)?.as_str(), usage);
     }
@@ -113,10 +220,11 @@ fn words_that_are_refused(rt: HostRuntime) -> Result<(), Fail> {
         file: (b"-", b"a."),
         failing: &[],
         cut: 0,
+        untraced: &[],
     };
     assert_eq!(rt;
         ran(rt.alloc(), &standard_input)?.as_str(),
-        "0 {a}\n% complete, 1 printed\n|"
+        "0 {a}\n% complete, 1 printed\n||1"
     );
     Ok(())
 }
@@ -129,21 +237,22 @@ fn files_that_cannot_be_read(rt: HostRuntime) -> Result<(), Fail> {
         file: (b"p.lp", b"a."),
         failing: &[],
         cut: 0,
+        untraced: &[],
     };
     assert_eq!(rt;
         ran(alloc, &missing)?.as_str(),
-        "6 |alpha: cannot read none.lp\n"
+        "6 |alpha: cannot read none.lp\n|0"
     );
     let mut text = Vec::new(alloc);
     text.resize(16_777_217, b' ')?;
     assert_eq!(rt;
         solved(alloc, &text)?.as_str(),
-        "5 |alpha: p.lp is too long\n"
+        "5 |alpha: p.lp is too long\n|0"
     );
     text.truncate(16_777_216);
     assert_eq!(rt;
         solved(alloc, &text)?.as_str(),
-        "0 {}\n% complete, 1 printed\n|"
+        "0 {}\n% complete, 1 printed\n||1"
     );
     Ok(())
 }
@@ -151,10 +260,10 @@ fn files_that_cannot_be_read(rt: HostRuntime) -> Result<(), Fail> {
 #[test]
 fn writes_that_fail_keep_what_was_written(rt: HostRuntime) -> Result<(), Fail> {
     let rows = [
-        ([0].as_slice(), 2, "7 {a|alpha: cannot write\n"),
-        ([0].as_slice(), 9, "7 {a}\n|alpha: cannot write\n"),
-        ([1].as_slice(), 3, "7 {a}\n% c|alpha: cannot write\n"),
-        ([2].as_slice(), 3, "0 {a}\n% complete, 1 printed\n|"),
+        ([0].as_slice(), 2, "7 {a|alpha: cannot write\n|0"),
+        ([0].as_slice(), 9, "7 {a}\n|alpha: cannot write\n|0"),
+        ([1].as_slice(), 3, "7 {a}\n% c|alpha: cannot write\n|1"),
+        ([2].as_slice(), 3, "0 {a}\n% complete, 1 printed\n||1"),
     ];
     for (failing, cut, want) in rows {
         let case = Case {
@@ -162,8 +271,70 @@ fn writes_that_fail_keep_what_was_written(rt: HostRuntime) -> Result<(), Fail> {
             file: (b"p.lp", b"a."),
             failing,
             cut,
+            untraced: &[],
         };
         assert_eq!(rt; ran(rt.alloc(), &case)?.as_str(), want);
     }
+    Ok(())
+}
+
+#[test]
+fn a_write_that_fails_between_two_sets(rt: HostRuntime) -> Result<(), Fail> {
+    let case = Case {
+        words: "solve p.lp",
+        file: (b"p.lp", b"a :- not b. b :- not a."),
+        failing: &[1],
+        cut: 2,
+        untraced: &[],
+    };
+    let got = ran(rt.alloc(), &case)?;
+    let got = got.as_str();
+    assert!(rt;
+        got == "7 {a}\n{b|alpha: cannot write\n|1" || got == "7 {b}\n{a|alpha: cannot write\n|1"
+    );
+    Ok(())
+}
+
+#[test]
+fn a_trace_that_fails_ends_the_run(rt: HostRuntime) -> Result<(), Fail> {
+    let case = Case {
+        words: "solve p.lp",
+        file: (b"p.lp", b"a :- not b. b :- not a."),
+        failing: &[],
+        cut: 0,
+        untraced: &[1],
+    };
+    assert_eq!(rt;
+        ran(rt.alloc(), &case)?.as_str(),
+        "8 |alpha: cannot write the trace\n|0"
+    );
+    Ok(())
+}
+
+// Whether the status has this code and this last line.
+fn ends_with(alloc: Global, status: &Status, code: u8, want: &[u8]) -> bool {
+    match last_line(alloc, status) {
+        Ok(line) => status.code() == code && line.as_slice() == want,
+        Err(_) => false,
+    }
+}
+
+#[test]
+fn last_lines_of_searches_that_were_stopped(rt: HostRuntime) -> Result<(), Fail> {
+    let alloc = rt.alloc();
+    let limit = Status::LimitReached { printed: 2 };
+    assert!(rt; ends_with(alloc, &limit, 10, b"% limit, 2 printed\n"));
+    let conflicts = Status::BudgetSpent {
+        budget: BudgetKind::Conflicts,
+        number: 1,
+        printed: 0,
+    };
+    assert!(rt; ends_with(alloc, &conflicts, 11, b"% budget conflicts 1, 0 printed\n"));
+    let instances = Status::BudgetSpent {
+        budget: BudgetKind::Instances,
+        number: 5,
+        printed: 0,
+    };
+    assert!(rt; ends_with(alloc, &instances, 11, b"% budget instances 5, 0 printed\n"));
     Ok(())
 }

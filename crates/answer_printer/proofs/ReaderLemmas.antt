@@ -165,7 +165,7 @@ module _ (ns : List Node) (old mid new : Pool) (negated : Bool) (name : List ℕ
     | inr more ↦ omega (arith, lt, ap length more, ap length atoms, length-append mid.atoms (Named pred_id args ∷ []))
   ]
 
-  users_stay : ((k : ℕ) → k < length old.atoms → IsUserAtom old k) → (k : ℕ) → k < length new.atoms → IsUserAtom new k
+  pub users_stay : ((k : ℕ) → k < length old.atoms → IsUserAtom old k) → (k : ℕ) → k < length new.atoms → IsUserAtom new k
   users_stay before k lt = elim (old_or_added k lt) [
     | inl h ↦ user_kept mid new (Named pred_id args) id k a preds (user_kept_by_pred old mid (pred.User negated name arity) pred_id k p atoms (before k h))
     | inr e ↦ subst (IsUserAtom new) (sym e) (user_interned mid new pred_id args id negated name arity a (ap (λ ps. slice_get ps pred_id) preds ∙ p.there))

@@ -84,8 +84,8 @@ fn read_all(alloc: Global, line: &[u8]) -> Result<Reader, SetFault>
     Ok(reader)
 }
 
-// The ids of so many atoms.
-fn ids(alloc: Global, count: u32) -> Result<Vec<AtomId>, OutOfMemory>
+/// The ids of so many atoms.
+pub fn ids(alloc: Global, count: u32) -> Result<Vec<AtomId>, OutOfMemory>
     ensures { IfOk result (λ all. all.items ≡ below count) }
 {
     let mut all = Vec::new(alloc);

@@ -1,161 +1,272 @@
-ghost use Rattle.std.specs.Prelude.{◌<◌, ◌^◌, All, IfOk, ℕ, length};
-ghost use Rattle.atom_pool.specs.Meanings.{IsBeside, IsUserAtom};
+ghost use Rattle.std.specs.Prelude.{◌≡◌, ◌<◌, ◌^◌, All, IfOk, OnOk, ℕ, length};
+ghost use Rattle.term_pool.specs.Nodes.{PartsBelow, HasArguments};
+ghost use Rattle.answer_printer.specs.Made.{AreMade};
 
+use crate::reading::ids;
 use crate::{SetFault, read_set_line, set_line};
-use alpha_outside::{AtomId, Name, Node, Pred, TermId};
+use alpha_outside::{List, Name, Node, Pred, TermId};
 use atom_pool::AtomPool;
 use std::alloc::Global;
-use std::process::Abort;
 use std::test::Fail;
 use term_pool::TermPool;
 
-fn no_atoms(alloc: Global) -> AtomPool
-    ensures { (n : ℕ) → IsBeside result n }
-{
-    AtomPool::new(alloc)
+/// A step in making atoms, in postfix order: what takes arguments takes them from a stack of terms.
+#[derive(Clone, Copy)]
+enum Step {
+    Int(i64),
+    Text(&'static [u8]),
+    /// A term of so many arguments, without any a symbol.
+    Call(&'static [u8], u32),
+    /// An atom of so many arguments, and whether it is negated.
+    Atom(bool, &'static [u8], u32),
 }
 
-#[test]
-fn the_empty_set_has_a_line(rt: HostRuntime) -> Result<(), Fail> {
-    let alloc = rt.alloc();
-    let line = set_line(alloc, &[], &no_atoms(alloc), &TermPool::new(alloc))?;
-    assert_eq!(rt; line.as_slice(), b"{}\n".as_slice());
-    Ok(())
+/// The atoms that were made, in pools that have no others.
+#[derive(Drop)]
+struct Made {
+    terms: TermPool,
+    atoms: AtomPool,
+    /// The terms that no step has taken.
+    stack: Vec<TermId>,
 }
 
-// The atom of a user's predicate with these arguments.
-fn atom(
-    alloc: Global,
-    atoms: &mut AtomPool,
-    terms: &TermPool,
-    negated: bool,
-    name: &[u8],
-    args: &[TermId],
-) -> Result<AtomId, Fail>
-    requires beside { IsBeside atoms.old (length terms.now) }
-    requires args { All (λ a. a < length terms.now) args.now }
-    requires few { length args.now < 2 ^ 32 }
-    ensures user { IfOk result (λ id. IsUserAtom atoms.new id) }
-    ensures kept { IfOk result (λ _. (id : ℕ) → IsUserAtom atoms.old id → IsUserAtom atoms.new id) }
-    ensures beside { IfOk result (λ _. IsBeside atoms.new (length terms.now)) }
-{
-    let name = Name::from_bytes(alloc, name)?;
-    let arity = args.len() as u32;
-    let pred = atoms.pred(Pred::User {
-        negated,
-        name,
-        arity,
-    })?;
-    Ok(atoms.intern(pred, args)?)
-}
+impl Made {
+    fn new(alloc: Global) -> Made
+        ensures { AreMade result.terms result.atoms result.stack.items }
+    {
+        Made {
+            terms: TermPool::new(alloc),
+            atoms: AtomPool::new(alloc),
+            stack: Vec::new(alloc),
+        }
+    }
 
-// The set of these two has the line.
-fn assert_line(
-    alloc: Global,
-    rt: &impl Abort,
-    a: AtomId,
-    b: AtomId,
-    atoms: &AtomPool,
-    terms: &TermPool,
-) -> Result<(), Fail>
-    requires left { IsUserAtom atoms.now a }
-    requires right { IsUserAtom atoms.now b }
-    requires beside { IsBeside atoms.now (length terms.now) }
-{
-    assert!(rt; a != b);
-    let line = set_line(alloc, &[a, b], atoms, terms)?;
-    assert_eq!(rt; line.as_slice(), b"{p(-1), -q}\n".as_slice());
-    Ok(())
-}
+    // A term onto the stack.
+    fn push(&mut self, node: Node) -> Result<(), Fail>
+        requires made { AreMade self.old.terms self.old.atoms self.old.stack.items }
+        requires parts { PartsBelow (length self.old.terms) node }
+        requires arguments { HasArguments node }
+        ensures { OnOk result (AreMade self.new.terms self.new.atoms self.new.stack.items) }
+    {
+        let id = self.terms.intern(node)?;
+        self.stack.push(id)?;
+        Ok(())
+    }
 
-#[test]
-fn atoms_stand_in_their_order(rt: HostRuntime) -> Result<(), Fail> {
-    let alloc = rt.alloc();
-    let mut terms = TermPool::new(alloc);
-    let minus_one = terms.intern(Node::Int(-1))?;
-    let mut atoms = no_atoms(alloc);
-    let q = atom(alloc, &mut atoms, &terms, true, b"q", &[])?;
-    let p = atom(alloc, &mut atoms, &terms, false, b"p", &[minus_one])?;
-    assert_line(alloc, &rt, p, q, &atoms, &terms)?;
-    assert_line(alloc, &rt, q, p, &atoms, &terms)
-}
+    // Takes so many terms from the stack.
+    fn take(&mut self, alloc: Global, many: u32) -> Result<List<TermId>, Fail>
+        requires made { AreMade self.old.terms self.old.atoms self.old.stack.items }
+        ensures made { OnOk result (AreMade self.new.terms self.new.atoms self.new.stack.items) }
+        ensures within { IfOk result (λ args. All (λ a. a < length self.new.terms) args) }
+        ensures many { IfOk result (λ args. length args ≡ many) }
+    {
+        let from = self
+            .stack
+            .len()
+            .checked_sub(many as usize)
+            .ok_or("too few terms on the stack")?;
+        let args = List::from_slice(alloc, &self.stack[from..])?;
+        self.stack.truncate(from);
+        Ok(args)
+    }
 
-// Whether the line is read, and this is its canonical line.
-fn reads_as(alloc: Global, line: &[u8], canonical: &[u8]) -> bool {
-    match read_set_line(alloc, line) {
-        Ok(read) => read.as_slice() == canonical,
-        Err(_) => false,
+    fn text(&mut self, alloc: Global, text: &[u8]) -> Result<(), Fail>
+        requires { AreMade self.old.terms self.old.atoms self.old.stack.items }
+        ensures { OnOk result (AreMade self.new.terms self.new.atoms self.new.stack.items) }
+    {
+        let text = Name::from_bytes(alloc, text)?;
+        self.push(Node::Text(text))
+    }
+
+    fn symbol(&mut self, alloc: Global, name: &[u8]) -> Result<(), Fail>
+        requires { AreMade self.old.terms self.old.atoms self.old.stack.items }
+        ensures { OnOk result (AreMade self.new.terms self.new.atoms self.new.stack.items) }
+    {
+        let name = Name::from_bytes(alloc, name)?;
+        self.push(Node::Symbol(name))
+    }
+
+    fn call(&mut self, alloc: Global, name: &[u8], many: u32) -> Result<(), Fail>
+        requires made { AreMade self.old.terms self.old.atoms self.old.stack.items }
+        requires some { 0 < many }
+        ensures { OnOk result (AreMade self.new.terms self.new.atoms self.new.stack.items) }
+    {
+        let args = self.take(alloc, many)?;
+        let name = Name::from_bytes(alloc, name)?;
+        self.push(Node::Fun(name, args))
+    }
+
+    // An atom into its pool.
+    fn add(&mut self, negated: bool, name: Name, arity: u32, args: &[TermId]) -> Result<(), Fail>
+        requires made { AreMade self.old.terms self.old.atoms self.old.stack.items }
+        requires within { All (λ a. a < length self.old.terms) args.now }
+        requires arity { length args.now ≡ arity }
+        ensures { OnOk result (AreMade self.new.terms self.new.atoms self.new.stack.items) }
+    {
+        let pred = self.atoms.pred(Pred::User {
+            negated,
+            name,
+            arity,
+        })?;
+        self.atoms.intern(pred, args)?;
+        Ok(())
+    }
+
+    fn atom(&mut self, alloc: Global, negated: bool, name: &[u8], arity: u32) -> Result<(), Fail>
+        requires { AreMade self.old.terms self.old.atoms self.old.stack.items }
+        ensures { OnOk result (AreMade self.new.terms self.new.atoms self.new.stack.items) }
+    {
+        let args = self.take(alloc, arity)?;
+        let name = Name::from_bytes(alloc, name)?;
+        self.add(negated, name, arity, args.as_slice())
+    }
+
+    fn step(&mut self, alloc: Global, step: Step) -> Result<(), Fail>
+        requires { AreMade self.old.terms self.old.atoms self.old.stack.items }
+        ensures { OnOk result (AreMade self.new.terms self.new.atoms self.new.stack.items) }
+    {
+        match step {
+            Step::Int(number) => self.push(Node::Int(number)),
+            Step::Text(text) => self.text(alloc, text),
+            Step::Call(name, 0) => self.symbol(alloc, name),
+            Step::Call(name, many) => self.call(alloc, name, many),
+            Step::Atom(negated, name, many) => self.atom(alloc, negated, name, many),
+        }
+    }
+
+    fn steps(&mut self, alloc: Global, steps: &[Step]) -> Result<(), Fail>
+        requires { AreMade self.old.terms self.old.atoms self.old.stack.items }
+        ensures { OnOk result (AreMade self.new.terms self.new.atoms self.new.stack.items) }
+    {
+        for step in steps {
+            self.step(alloc, *step)?;
+        }
+        Ok(())
+    }
+
+    // The line of all atoms.
+    fn line(&self, alloc: Global) -> Result<List<u8>, Fail>
+        requires { AreMade self.now.terms self.now.atoms self.now.stack.items }
+    {
+        let all = ids(alloc, self.atoms.len())?;
+        Ok(set_line(alloc, all.as_slice(), &self.atoms, &self.terms)?)
     }
 }
 
-// Whether the line is refused since it is no set.
-fn is_refused(alloc: Global, line: &[u8]) -> bool {
-    match read_set_line(alloc, line) {
-        Ok(_) => false,
-        Err(fault) => fault == SetFault::NotASet,
+// The steps to one of nine atoms, in the order in which they are printed.
+fn steps_to(atom: usize) -> &'static [Step] {
+    match atom {
+        0 => &[Step::Atom(false, b"v", 0)],
+        1 => &[Step::Int(-1), Step::Atom(false, b"v", 1)],
+        2 => &[Step::Int(2), Step::Atom(true, b"v", 1)],
+        3 => &[Step::Call(b"a", 0), Step::Atom(false, b"v", 1)],
+        4 => &[Step::Call(b"g", 0), Step::Atom(false, b"v", 1)],
+        5 => &[Step::Text(b"b"), Step::Atom(false, b"v", 1)],
+        6 => &[
+            Step::Int(1),
+            Step::Call(b"f", 1),
+            Step::Atom(false, b"v", 1),
+        ],
+        7 => &[
+            Step::Int(0),
+            Step::Int(0),
+            Step::Call(b"f", 2),
+            Step::Atom(false, b"v", 1),
+        ],
+        _ => &[Step::Atom(true, b"w", 0)],
+    }
+}
+
+// The line of the atoms that were made and of these.
+fn line_with(alloc: Global, made: &mut Made, order: &[usize]) -> Result<List<u8>, Fail>
+    requires { AreMade made.old.terms made.old.atoms made.old.stack.items }
+{
+    for atom in order {
+        made.steps(alloc, steps_to(*atom))?;
+    }
+    made.line(alloc)
+}
+
+// The line of atoms that are made in this order.
+fn line_of(alloc: Global, order: &[usize]) -> Result<List<u8>, Fail> {
+    let mut made = Made::new(alloc);
+    line_with(alloc, &mut made, order)
+}
+
+/// The line of the first eight atoms.
+const LINE: &[u8] = b"{v, v(-1), -v(2), v(a), v(g), v(\"b\"), v(f(1)), v(f(0,0))}\n";
+
+// Whether the text is the set of this line, or without a line no set.
+fn reads_as(alloc: Global, text: &[u8], line: Option<&[u8]>) -> bool {
+    match read_set_line(alloc, text) {
+        Ok(read) => line == Some(read.as_slice()),
+        Err(fault) => fault == SetFault::NotASet && line.is_none(),
+    }
+}
+
+// Whether the line is that of the set that it is itself.
+fn reads_as_itself(alloc: Global, line: &[u8]) -> bool {
+    match line.split_last() {
+        Some((_, text)) => reads_as(alloc, text, Some(line)),
+        None => false,
     }
 }
 
 #[test]
-fn blanks_order_and_repeats_do_not_matter(rt: HostRuntime) -> Result<(), Fail> {
+fn atoms_have_one_line_in_whatever_order(rt: HostRuntime) -> Result<(), Fail> {
     let alloc = rt.alloc();
-    assert!(rt; reads_as(alloc, b"{ b , a,b }", b"{a, b}\n"));
-    assert!(rt; reads_as(alloc, b"\t{}\r ", b"{}\n"));
-    assert!(rt; reads_as(alloc, b"{- a}", b"{-a}\n"));
-    assert!(rt;
-        reads_as(
-            alloc,
+    let rows = [
+        ([].as_slice(), b"{}\n".as_slice()),
+        (&[8, 7], b"{v(f(0,0)), -w}\n"),
+        (&[7, 6, 5, 4, 3, 2, 1, 0], LINE),
+        (&[3, 7, 0, 5, 2, 6, 1, 4], LINE),
+        (&[6, 1, 4, 0, 7, 3, 5, 2, 6], LINE),
+    ];
+    for (order, line) in rows {
+        let made = line_of(alloc, order)?;
+        assert_eq!(rt; made.as_slice(), line, "in the order {order:?}");
+        assert!(rt; reads_as_itself(alloc, made.as_slice()));
+    }
+    Ok(())
+}
+
+#[test]
+fn texts_have_one_line_or_are_no_sets(rt: HostRuntime) {
+    let alloc = rt.alloc();
+    let rows = [
+        // Blanks, order and repeats do not matter.
+        (b"{ b , a,b }".as_slice(), Some(b"{a, b}\n".as_slice())),
+        (b"\t{}\r ", Some(b"{}\n")),
+        (b"{- a}", Some(b"{-a}\n")),
+        (
             b"{nothing( f ( -1 , \"x, y\" ) )}",
-            b"{nothing(f(-1,\"x, y\"))}\n"
-        )
-    );
-    Ok(())
-}
-
-#[test]
-fn others_are_no_sets(rt: HostRuntime) -> Result<(), Fail> {
-    let alloc = rt.alloc();
-    assert!(rt; is_refused(alloc, b"{a,}"));
-    assert!(rt; is_refused(alloc, b"{not}"));
-    assert!(rt; is_refused(alloc, b"{p()}"));
-    assert!(rt; is_refused(alloc, b"{a b}"));
-    assert!(rt; is_refused(alloc, b"{a} %"));
-    assert!(rt; is_refused(alloc, b"{a}\n"));
-    assert!(rt; is_refused(alloc, b""));
-    Ok(())
-}
-
-#[test]
-fn integers_have_one_spelling(rt: HostRuntime) -> Result<(), Fail> {
-    let alloc = rt.alloc();
-    assert!(rt; is_refused(alloc, b"{p(01)}"));
-    assert!(rt; is_refused(alloc, b"{p(- 1)}"));
-    assert!(rt; is_refused(alloc, b"{p(-0)}"));
-    assert!(rt; is_refused(alloc, b"{p(9223372036854775808)}"));
-    assert!(rt;
-        reads_as(
-            alloc,
-            b"{p(-9223372036854775808)}",
-            b"{p(-9223372036854775808)}\n"
-        )
-    );
-    Ok(())
-}
-
-#[test]
-fn values_stand_in_their_order(rt: HostRuntime) -> Result<(), Fail> {
-    let alloc = rt.alloc();
-    let line = b"{v, v(-1), -v(2), v(a), v(g), v(\"b\"), v(f(1)), v(f(0,0))}";
-    let canonical = b"{v, v(-1), -v(2), v(a), v(g), v(\"b\"), v(f(1)), v(f(0,0))}\n";
-    assert!(rt; reads_as(alloc, line, canonical));
-    assert!(rt;
-        reads_as(
-            alloc,
+            Some(b"{nothing(f(-1,\"x, y\"))}\n"),
+        ),
+        (
             b"{v(f(1)),v(\"b\"),v(a),v(-1),v(f(0,0)),v(g),v,-v(2)}",
-            canonical
-        )
-    );
-    Ok(())
+            Some(LINE),
+        ),
+        // Integers have one spelling.
+        (
+            b"{p(-9223372036854775808)}",
+            Some(b"{p(-9223372036854775808)}\n"),
+        ),
+        (b"{p(9223372036854775808)}", None),
+        (b"{p(01)}", None),
+        (b"{p(- 1)}", None),
+        (b"{p(-0)}", None),
+        // Others are no sets.
+        (b"{a,}", None),
+        (b"{not}", None),
+        (b"{p()}", None),
+        (b"{a b}", None),
+        (b"{a} %", None),
+        (b"{a}\n", None),
+        (b"", None),
+    ];
+    for (text, line) in rows {
+        assert!(rt; reads_as(alloc, text, line), "{text:?}");
+    }
 }
 
 // Adds a piece so many times.

@@ -1,7 +1,3 @@
-pub mod Lexes
-pub mod Laws
-pub mod FromMachine
-pub mod Words
+pub mod TreeLemmas
 pub mod LoopLemmas
 pub mod AnswerLemmas
-pub mod TreeLemmas

@@ -1,179 +1,196 @@
--- Passes over clauses, until none is ready.
-use Rattle.std.proofs.Common.{◌≡◌, ◌⊎◌, ◌↔◌, inl, inr, refl, sym, ap, subst, ◌∙◌, ◌+◌, List, [], ◌∷◌, ◌++◌, length, arith, length-append, OnOk, Result, Ok, Err}
+-- Following what clauses derive.
+use Rattle.std.proofs.Common.{◌≡◌, ◌⊎◌, ◌↔◌, inl, inr, refl, sym, ap, subst, ◌∙◌, Bool, true, false, List, [], ◌∷◌, ◌++◌}
 use Rattle.lists.specs.Lists.{◌∈◌, ◌⊆◌}
 use Rattle.lists.proofs.ListLemmas.{∈-append_left, ∈-append_right, ∈-append_cases}
 use Rattle.asp_meaning.specs.Terms.{Variable}
 use Rattle.asp_safety.specs.declared.clause.Clause.{Clause}
-use Rattle.asp_safety.specs.Clauses.{Derives, from_given, by_clause, IsReady, Tried, Passed}
+use Rattle.asp_safety.specs.Keys.{variable_eq}
+use Rattle.asp_safety.specs.KeyLaws.{variable_same}
+use Rattle.asp_safety.specs.Clauses.{Derives, from_given, by_clause}
+use Rattle.asp_safety.specs.Settling.{IsMet, IsReady, Follows, Waits, IsPartOf, IsUnmet, Placed, fired, filed, IsSettling}
+use Rattle.asp_safety.proofs.Rows.{apart}
 
--- before the first clause is tried
-pub none_tried : (given old : List Variable) (waiting : List Clause) → Passed given old old waiting waiting []
-none_tried given old waiting = record {
-  sound = λ all from h. h;
-  grows = λ v k. k;
-  there = λ c k. inl k;
-  rest_from = λ c k. k;
-  left_from = λ c k. absurd k;
-  count = omega arith;
-  stuck = λ e c k. absurd k;
-}
+abbrev Rows : Type 0
+Rows = List (Variable × List Clause)
 
--- the clause that was taken from the end
-tail_in : (rest left : List Clause) (c : Clause) → rest ≡ left ++ c ∷ [] → c ∈ rest
-tail_in rest left c e = subst (λ xs. c ∈ xs) (sym e) (∈-append_right c left (c ∷ []) (inl refl))
+-- the item that was taken from the end
+tail_in : {A : Type 0} (whole left : List A) (x : A) → whole ≡ left ++ x ∷ [] → x ∈ whole
+tail_in whole left x e = subst (λ xs. x ∈ xs) (sym e) (∈-append_right x left (x ∷ []) (inl refl))
 
-front_in : (rest left : List Clause) (c d : Clause) → rest ≡ left ++ c ∷ [] → d ∈ left → d ∈ rest
-front_in rest left c d e k = subst (λ xs. d ∈ xs) (sym e) (∈-append_left d left (c ∷ []) k)
+front_in : {A : Type 0} (whole left : List A) (x y : A) → whole ≡ left ++ x ∷ [] → y ∈ left → y ∈ whole
+front_in whole left x y e k = subst (λ xs. y ∈ xs) (sym e) (∈-append_left y left (x ∷ []) k)
 
-module _ (given old new next : List Variable) (waiting rest fewer left more : List Clause) (c : Clause) (e : rest ≡ fewer ++ c ∷ []) (p : Passed given old new waiting rest left) where
-  size : length rest ≡ length fewer + 1
-  size = ap length e ∙ length-append fewer (c ∷ [])
+from_end : {A : Type 0} (whole left : List A) (x y : A) → whole ≡ left ++ x ∷ [] → y ∈ whole → (y ∈ left) ⊎ (y ≡ x)
+from_end whole left x y e k = elim (∈-append_cases y left (x ∷ []) (subst (λ xs. y ∈ xs) e k)) [
+  | inl k ↦ inl k
+  | inr k ↦ elim k [ inl same ↦ inr same | inr none ↦ absurd none ]
+]
 
-  fired : IsReady given new c → more ≡ left → ((v : Variable) → (v ∈ next) ↔ ((v ∈ new) ⊎ (v ≡ c.gives))) → Passed given old next waiting fewer more
-  fired ready same add = record {
-    sound = λ all from h v k. elim ((add v).0 k) [
-      | inl k ↦ p.sound all from h v k
-      | inr is ↦ by_clause v c (from c (p.rest_from c (tail_in rest fewer c e))) is (λ w n. elim (ready w n) [ inl k ↦ from_given w k | inr k ↦ p.sound all from h w k ])
-    ];
-    grows = λ v k. (add v).1 (inl (p.grows v k));
-    there = λ d k. elim (p.there d k) [
-      | inl k ↦ elim (∈-append_cases d fewer (c ∷ []) (subst (λ xs. d ∈ xs) e k)) [
-        | inl k ↦ inl k
-        | inr k ↦ elim k [ inl is ↦ inr (inr ((add d.gives).1 (inr (ap (λ x. x.gives) is)))) | inr none ↦ absurd none ]
-      ]
-      | inr k ↦ elim k [
-        | inl k ↦ inr (inl (subst (λ xs. d ∈ xs) (sym same) k))
-        | inr k ↦ inr (inr ((add d.gives).1 (inl k)))
-      ]
-    ];
-    rest_from = λ d k. p.rest_from d (front_in rest fewer c d e k);
-    left_from = λ d k. p.left_from d (subst (λ xs. d ∈ xs) same k);
-    count = omega (arith, p.count, size, ap length same);
-    stuck = λ eq d k. absurd (omega (arith, p.count, size, ap length same));
-  }
+-- ---- taking needs off
 
-  kept : (¬ IsReady given new c) → more ≡ left ++ c ∷ [] → next ≡ new → Passed given old next waiting fewer more
-  kept unready longer same = record {
-    sound = λ all from h v k. p.sound all from h v (subst (λ xs. v ∈ xs) same k);
-    grows = λ v k. subst (λ xs. v ∈ xs) (sym same) (p.grows v k);
-    there = λ d k. elim (p.there d k) [
-      | inl k ↦ elim (∈-append_cases d fewer (c ∷ []) (subst (λ xs. d ∈ xs) e k)) [
-        | inl k ↦ inl k
-        | inr k ↦ inr (inl (subst (λ xs. d ∈ xs) (sym longer) (∈-append_right d left (c ∷ []) k)))
-      ]
-      | inr k ↦ elim k [
-        | inl k ↦ inr (inl (subst (λ xs. d ∈ xs) (sym longer) (∈-append_left d left (c ∷ []) k)))
-        | inr k ↦ inr (inr (subst (λ xs. d.gives ∈ xs) (sym same) k))
-      ]
-    ];
-    rest_from = λ d k. p.rest_from d (front_in rest fewer c d e k);
-    left_from = λ d k. elim (∈-append_cases d left (c ∷ []) (subst (λ xs. d ∈ xs) longer k)) [
-      | inl k ↦ p.left_from d k
-      | inr k ↦ elim k [ inl is ↦ subst (λ x. x ∈ waiting) (sym is) (p.rest_from c (tail_in rest fewer c e)) | inr none ↦ absurd none ]
-    ];
-    count = omega (arith, p.count, size, ap length longer ∙ length-append left (c ∷ []));
-    stuck = λ eq d k.
-        let full : length left + length rest ≡ length waiting = omega (arith, size, ap length longer ∙ length-append left (c ∷ [])) in
-        λ ready. elim (∈-append_cases d left (c ∷ []) (subst (λ xs. d ∈ xs) longer k)) [
-          | inl k ↦ p.stuck full d k (subst (λ xs. IsReady given xs d) same ready)
-          | inr k ↦ elim k [ inl is ↦ unready (subst (IsReady given new) is (subst (λ xs. IsReady given xs d) same ready)) | inr none ↦ absurd none ]
-        ];
-  }
+-- before the first is taken each is left
+pub none_off : {A : Type 0} (P : A → Type 0) (xs : List A) (w : A) → w ∈ xs → (w ∈ xs) ⊎ P w
+none_off P xs w k = inl k
 
-  -- one turn of the loop over the clauses
-  pub tried : Tried given new next left more c → Passed given old next waiting fewer more
-  tried (inl (ready, same, add)) = fired ready same add
-  tried (inr (unready, longer, same)) = kept unready longer same
+pub off : {A : Type 0} (P : A → Type 0) (all whole left : List A) (x : A) → whole ≡ left ++ x ∷ [] → P x
+    → ((w : A) → w ∈ all → (w ∈ whole) ⊎ P w) → (w : A) → w ∈ all → (w ∈ left) ⊎ P w
+off P all whole left x e here seen w k = elim (seen w k) [
+  | inl k ↦ elim (from_end whole left x w e k) [ inl k ↦ inl k | inr same ↦ inr (subst P (sym same) here) ]
+  | inr h ↦ inr h
+]
 
--- what is kept from pass to pass
-pub record Settling (given bound : List Variable) (clauses waiting : List Clause) : Type 0 where
-  pub sound : (v : Variable) → v ∈ bound → Derives given clauses v
-  pub from : waiting ⊆ clauses
-  pub there : (c : Clause) → c ∈ clauses → (c ∈ waiting) ⊎ (c.gives ∈ bound)
+pub off_less : {A : Type 0} (all whole left : List A) (x : A) → whole ≡ left ++ x ∷ [] → whole ⊆ all → left ⊆ all
+off_less all whole left x e less y k = less y (front_in whole left x y e k)
 
-pub settling_at_first : (given : List Variable) (clauses : List Clause) → Settling given [] clauses clauses
-settling_at_first given clauses = record {
-  sound = λ v k. absurd k;
-  from = λ c k. k;
-  there = λ c k. inl k;
-}
+pub all_off : {A : Type 0} (P : A → Type 0) (all left : List A) → left ≡ [] → ((w : A) → w ∈ all → (w ∈ left) ⊎ P w) → (w : A) → w ∈ all → P w
+all_off P all left e seen w k = elim (seen w k) [ inl k ↦ absurd (subst (λ xs. w ∈ xs) e k) | inr h ↦ h ]
 
-pub settling_on : (given old new : List Variable) (clauses waiting left : List Clause) → Settling given old clauses waiting → Passed given old new waiting [] left
-    → Settling given new clauses left
-settling_on given old new clauses waiting left s p = record {
-  sound = p.sound clauses s.from s.sound;
-  from = λ c k. s.from c (p.left_from c k);
-  there = λ c k. elim (s.there c k) [
-    | inl k ↦ elim (p.there c k) [ inl none ↦ absurd none | inr k ↦ k ]
-    | inr k ↦ inr (p.grows c.gives k)
+pub is_unmet : (given found all whole left : List Variable) (v : Variable) → whole ≡ left ++ v ∷ [] → ¬ IsMet given found v → whole ⊆ all
+    → ((w : Variable) → w ∈ all → (w ∈ whole) ⊎ IsMet given found w) → IsUnmet given found all left v
+is_unmet given found all whole left v e unmet less seen = record {
+  there = less v (tail_in whole left v e);
+  unmet = unmet;
+  less = off_less all whole left v e less;
+  kept = λ w k. elim (seen w k) [
+    | inl k ↦ elim (from_end whole left v w e k) [ inl k ↦ inr (inl k) | inr same ↦ inl same ]
+    | inr h ↦ inr (inr h)
   ];
 }
 
-module _ (given old new : List Variable) (clauses waiting left : List Clause) (s : Settling given old clauses waiting) (p : Passed given old new waiting [] left) (full : length left ≡ length waiting) where
-  done : Settling given new clauses left
-  done = settling_on given old new clauses waiting left s p
+-- ---- at first
 
-  stuck : (c : Clause) → c ∈ left → ¬ IsReady given new c
-  stuck = p.stuck (omega arith)
+pub settling_at_first : (given found fresh : List Variable) (rows : Rows) (clauses : List Clause) → found ≡ [] → fresh ≡ [] → rows ≡ []
+    → IsSettling given found fresh rows clauses clauses
+settling_at_first given found fresh rows clauses no_found no_fresh no_rows =
+    let none : (v : Variable) (c : Clause) → ¬ Waits rows v c = λ v c (row, at, k). absurd (cc (at, no_rows)) in
+    record {
+      sound_found = λ v k. absurd (subst (λ xs. v ∈ xs) no_found k);
+      sound_fresh = λ v k. absurd (subst (λ xs. v ∈ xs) no_fresh k);
+      sound_rest = λ c k h. by_clause c.gives c k refl h;
+      sound_rows = λ v c w. absurd (none v c w);
+      unmet = λ v c w. absurd (none v c w);
+      there = λ c k. inr (inl (c, record { gives = refl; needs = λ w n. n }, k));
+    }
 
-  -- a ready clause has given what it gives
-  closed : (c : Clause) → c ∈ clauses → IsReady given new c → c.gives ∈ new
-  closed c k ready = elim (done.there c k) [ inl k ↦ absurd (stuck c k ready) | inr k ↦ k ]
+-- ---- placing a clause
 
-  complete : (v : Variable) → Derives given clauses v → (v ∈ given) ⊎ (v ∈ new)
+module _ (given found : List Variable) (all : List Clause) (sound : (v : Variable) → v ∈ found → Derives given all v) where
+  met_derived : (w : Variable) → IsMet given found w → Derives given all w
+  met_derived w (inl k) = from_given w k
+  met_derived w (inr k) = sound w k
+
+module _ (given found old new : List Variable) (rows more : Rows) (all rest fewer : List Clause) (c : Clause) (e : rest ≡ fewer ++ c ∷ []) (s : IsSettling given found old rows all rest) where
+  derived : (w : Variable) → IsMet given found w → Derives given all w
+  derived = met_derived given found all s.sound_found
+
+  follows : Follows given all c.needs c.gives
+  follows = s.sound_rest c (tail_in rest fewer c e)
+
+  on_fired : IsReady given found c → new ≡ old ++ c.gives ∷ [] → more ≡ rows → IsSettling given found new more all fewer
+  on_fired ready longer same = record {
+    sound_found = s.sound_found;
+    sound_fresh = λ v k. elim (from_end new old c.gives v longer k) [
+      | inl k ↦ s.sound_fresh v k
+      | inr is ↦ subst (Derives given all) (sym is) (follows (λ w n. derived w (ready w n)))
+    ];
+    sound_rest = λ d k. s.sound_rest d (front_in rest fewer c d e k);
+    sound_rows = λ v d w. s.sound_rows v d (subst (λ r. Waits r v d) same w);
+    unmet = λ v d w. s.unmet v d (subst (λ r. Waits r v d) same w);
+    there = λ b k. elim (s.there b k) [
+      | inl (inl k) ↦ inl (inl k)
+      | inl (inr k) ↦ inl (inr (front_in new old c.gives b.gives longer k))
+      | inr (inl (d, part, k)) ↦ elim (from_end rest fewer c d e k) [
+        | inl k ↦ inr (inl (d, part, k))
+        | inr is ↦ inl (inr (subst (λ x. x ∈ new) (sym (ap (λ x. x.gives) is) ∙ part.gives) (tail_in new old c.gives longer)))
+      ]
+      | inr (inr (v, d, part, n, w)) ↦ inr (inr (v, d, part, n, subst (λ r. Waits r v d) (sym same) w))
+    ];
+  }
+
+  on_filed : (v : Variable) (d : Clause) → d.gives ≡ c.gives → IsUnmet given found c.needs d.needs v → new ≡ old
+      → ((u : Variable) (x : Clause) → Waits more u x ↔ (Waits rows u x ⊎ ((u ≡ v) × (x ≡ d)))) → IsSettling given found new more all fewer
+  on_filed v d gives un same put = record {
+    sound_found = s.sound_found;
+    sound_fresh = λ u k. s.sound_fresh u (subst (λ xs. u ∈ xs) same k);
+    sound_rest = λ b k. s.sound_rest b (front_in rest fewer c b e k);
+    sound_rows = λ u x w. elim ((put u x).0 w) [
+      | inl w ↦ s.sound_rows u x w
+      | inr (at, is) ↦ λ h. subst (Derives given all) (sym (ap (λ y. y.gives) is ∙ gives)) (follows (λ y n. elim (un.kept y n) [
+        | inl first ↦ h y (inl (first ∙ sym at))
+        | inr (inl k) ↦ h y (inr (subst (λ z. y ∈ z.needs) (sym is) k))
+        | inr (inr met) ↦ derived y met
+      ]))
+    ];
+    unmet = λ u x w. elim ((put u x).0 w) [
+      | inl w ↦ s.unmet u x w
+      | inr (at, is) ↦ subst (λ y. ¬ IsMet given found y) (sym at) un.unmet
+    ];
+    there = λ b k. elim (s.there b k) [
+      | inl (inl k) ↦ inl (inl k)
+      | inl (inr k) ↦ inl (inr (subst (λ xs. b.gives ∈ xs) (sym same) k))
+      | inr (inl (x, part, k)) ↦ elim (from_end rest fewer c x e k) [
+        | inl k ↦ inr (inl (x, part, k))
+        | inr is ↦
+            let of_c : IsPartOf b c = subst (IsPartOf b) is part in
+            inr (inr (v, d, record { gives = gives ∙ of_c.gives; needs = λ y n. of_c.needs y (un.less y n) }, of_c.needs v un.there, (put v d).1 (inr (refl, refl))))
+      ]
+      | inr (inr (u, x, part, n, w)) ↦ inr (inr (u, x, part, n, (put u x).1 (inl w)))
+    ];
+  }
+
+  -- one turn of the loop over the clauses
+  pub placed : Placed given found old new rows more c → IsSettling given found new more all fewer
+  placed (fired ready longer same) = on_fired ready longer same
+  placed (filed v d gives un same put) = on_filed v d gives un same put
+
+-- ---- telling clauses that a variable is bound
+
+pub passed_on : (given found grown old fresh : List Variable) (rows more : Rows) (all none taken : List Clause) (v : Variable) → none ≡ [] → old ≡ fresh ++ v ∷ []
+    → ((u : Variable) → (u ∈ grown) ↔ ((u ∈ found) ⊎ (u ≡ v))) → ((c : Clause) → (c ∈ taken) ↔ Waits rows v c)
+    → ((u : Variable) (c : Clause) → Waits more u c ↔ (Waits rows u c × (¬ (u ≡ v)))) → IsSettling given found old rows all none → IsSettling given grown fresh more all taken
+passed_on given found grown old fresh rows more all none taken v no_rest e grows is_taken is_left s =
+    let here : Derives given all v = s.sound_fresh v (tail_in old fresh v e) in
+    record {
+      sound_found = λ u k. elim ((grows u).0 k) [ inl k ↦ s.sound_found u k | inr same ↦ subst (Derives given all) (sym same) here ];
+      sound_fresh = λ u k. s.sound_fresh u (front_in old fresh v u e k);
+      sound_rest = λ c k h. s.sound_rows v c ((is_taken c).0 k) (λ w n. elim n [ inl same ↦ subst (Derives given all) (sym same) here | inr n ↦ h w n ]);
+      sound_rows = λ u c w. s.sound_rows u c (((is_left u c).0 w).0);
+      unmet = λ u c w met.
+          let was = (is_left u c).0 w in
+          elim met [
+            | inl k ↦ s.unmet u c was.0 (inl k)
+            | inr k ↦ elim ((grows u).0 k) [ inl k ↦ s.unmet u c was.0 (inr k) | inr same ↦ was.1 same ]
+          ];
+      there = λ c k. elim (s.there c k) [
+        | inl (inl (inl k)) ↦ inl (inl (inl k))
+        | inl (inl (inr k)) ↦ inl (inl (inr ((grows c.gives).1 (inl k))))
+        | inl (inr k) ↦ elim (from_end old fresh v c.gives e k) [ inl k ↦ inl (inr k) | inr same ↦ inl (inl (inr ((grows c.gives).1 (inr same)))) ]
+        | inr (inl (d, part, k)) ↦ absurd (subst (λ xs. d ∈ xs) no_rest k)
+        | inr (inr (u, d, part, n, w)) ↦ by_case c u d part n w (variable_eq v u) refl
+      ];
+    }
+  where
+    by_case : (c : Clause) (u : Variable) (d : Clause) → IsPartOf c d → u ∈ c.needs → Waits rows u d → (b : Bool) → variable_eq v u ≡ b
+        → (IsMet given grown c.gives ⊎ (c.gives ∈ fresh)) ⊎ (((d : Clause) × IsPartOf c d × (d ∈ taken)) ⊎ ((v : Variable) × (d : Clause) × IsPartOf c d × (v ∈ c.needs) × Waits more v d))
+    by_case c u d part n w true t = inr (inl (d, part, (is_taken d).1 (subst (λ x. Waits rows x d) (sym (variable_same v u t)) w)))
+    by_case c u d part n w false t = inr (inr (u, d, part, n, (is_left u d).1 (w, apart v u t)))
+
+-- ---- at the end
+
+module _ (given found fresh : List Variable) (rows : Rows) (all none : List Clause) (no_rest : none ≡ []) (no_fresh : fresh ≡ []) (s : IsSettling given found fresh rows all none) where
+  -- what a ready clause gives is met
+  closed : (c : Clause) → c ∈ all → IsReady given found c → IsMet given found c.gives
+  closed c k ready = elim (s.there c k) [
+    | inl (inl met) ↦ met
+    | inl (inr k) ↦ absurd (subst (λ xs. c.gives ∈ xs) no_fresh k)
+    | inr (inl (d, part, k)) ↦ absurd (subst (λ xs. d ∈ xs) no_rest k)
+    | inr (inr (v, d, part, n, w)) ↦ absurd (s.unmet v d w (ready v n))
+  ]
+
+  complete : (v : Variable) → Derives given all v → IsMet given found v
   complete v (from_given w k) = inl k
-  complete v (by_clause w c k is needs) = inr (subst (λ u. u ∈ new) (sym is) (closed c k (λ u n. complete u (needs u n))))
+  complete v (by_clause w c k is needs) = subst (IsMet given found) (sym is) (closed c k (λ u n. complete u (needs u n)))
 
-  -- at the end what is bound is what is derived
-  pub settled : (v : Variable) → ((v ∈ given) ⊎ (v ∈ new)) ↔ Derives given clauses v
-  settled v = (λ k. elim k [ inl k ↦ from_given v k | inr k ↦ done.sound v k ], complete v)
-
--- a ready clause is tried by adding what it gives
-pub fires : {E : Type 0} (given old new : List Variable) (left : List Clause) (c : Clause) (result : Result (Unit {0}) E) → IsReady given old c
-    → OnOk result ((v : Variable) → (v ∈ new) ↔ ((v ∈ old) ⊎ (v ≡ c.gives))) → OnOk result (Tried given old new left left c)
-fires given old new left c (Ok x) ready add = inl (ready, refl, add)
-fires given old new left c (Err x) ready add = tt
-
--- one turn of the loop that keeps the clauses of local variables
-pub kept_on : (G : List Variable) (whole old left kept more : List Clause) (d : Clause) → old ≡ left ++ d ∷ []
-    → ((c : Clause) → (c ∈ more) ↔ ((c ∈ kept) ⊎ ((c ≡ d) × (¬ (c.gives ∈ G)))))
-    → ((c : Clause) → ((c ∈ kept) ⊎ ((c ∈ old) × (¬ (c.gives ∈ G)))) ↔ ((c ∈ whole) × (¬ (c.gives ∈ G))))
-    → (c : Clause) → ((c ∈ more) ⊎ ((c ∈ left) × (¬ (c.gives ∈ G)))) ↔ ((c ∈ whole) × (¬ (c.gives ∈ G)))
-kept_on G whole old left kept more d e add h c = (
-  λ k. (h c).0 (elim k [
-    | inl k ↦ elim ((add c).0 k) [ inl k ↦ inl k | inr (same, apart) ↦ inr (subst (λ xs. c ∈ xs) (sym e) (∈-append_right c left (d ∷ []) (inl same)), apart) ]
-    | inr (k, apart) ↦ inr (subst (λ xs. c ∈ xs) (sym e) (∈-append_left c left (d ∷ []) k), apart)
-  ]),
-  λ k. elim ((h c).1 k) [
-    | inl k ↦ inl ((add c).1 (inl k))
-    | inr (k, apart) ↦ elim (∈-append_cases c left (d ∷ []) (subst (λ xs. c ∈ xs) e k)) [
-      | inl k ↦ inr (k, apart)
-      | inr k ↦ elim k [ inl same ↦ inl ((add c).1 (inr (same, apart))) | inr none ↦ absurd none ]
-    ]
-  ],
-)
-
-pub all_kept : (G : List Variable) (whole old kept : List Clause) → old ≡ []
-    → ((c : Clause) → ((c ∈ kept) ⊎ ((c ∈ old) × (¬ (c.gives ∈ G)))) ↔ ((c ∈ whole) × (¬ (c.gives ∈ G))))
-    → (c : Clause) → (c ∈ kept) ↔ ((c ∈ whole) × (¬ (c.gives ∈ G)))
-all_kept G whole old kept e h c = (
-  λ k. (h c).0 (inl k),
-  λ k. elim ((h c).1 k) [ inl k ↦ k | inr (k, apart) ↦ absurd (subst (λ xs. c ∈ xs) e k) ],
-)
-
--- a clause at the end of a list is one of its members
-pub push_local : (G : List Variable) (old new : List Clause) (d : Clause) → new ≡ old ++ d ∷ [] → ¬ (d.gives ∈ G)
-    → (c : Clause) → (c ∈ new) ↔ ((c ∈ old) ⊎ ((c ≡ d) × (¬ (c.gives ∈ G))))
-push_local G old new d e apart c = (
-  λ k. elim (∈-append_cases c old (d ∷ []) (subst (λ xs. c ∈ xs) e k)) [
-    | inl k ↦ inl k
-    | inr k ↦ elim k [ inl same ↦ inr (same, λ g. apart (subst (λ x. x.gives ∈ G) same g)) | inr none ↦ absurd none ]
-  ],
-  λ k. subst (λ xs. c ∈ xs) (sym e) (elim k [ inl k ↦ ∈-append_left c old (d ∷ []) k | inr (same, out) ↦ ∈-append_right c old (d ∷ []) (inl same) ]),
-)
-
-pub skip_global : (G : List Variable) (old : List Clause) (d : Clause) → d.gives ∈ G → (c : Clause) → (c ∈ old) ↔ ((c ∈ old) ⊎ ((c ≡ d) × (¬ (c.gives ∈ G))))
-skip_global G old d k c = (
-  λ k. inl k,
-  λ h. elim h [ inl k ↦ k | inr (same, apart) ↦ absurd (apart (subst (λ x. x.gives ∈ G) (sym same) k)) ],
-)
+  -- what is met is what is derived
+  pub settled : (v : Variable) → ((v ∈ given) ⊎ (v ∈ found)) ↔ Derives given all v
+  settled v = (λ k. elim k [ inl k ↦ from_given v k | inr k ↦ s.sound_found v k ], complete v)

@@ -3,6 +3,7 @@ pub mod KeyLaws
 pub mod Binding
 pub mod Firsts
 pub mod Clauses
+pub mod Settling
 pub mod ClauseLists
 pub mod Walks
 pub mod Faults

@@ -4,10 +4,11 @@
 //! (`Binding.antt`), and what is the first fault of a program (`Firsts.antt`, `Faults.antt`). That no aggregate is recursive, and the
 //! strata of predicates, are found in the crate `asp_strata`.
 //!
-//! The code makes clauses of the literals of a body or a condition: one variable is bound where others are. It goes over those that
-//! wait, from the end and then from the other end, until none is ready. Each look-up is one in a table of hashes.
+//! The code makes clauses of the literals of a body or a condition: one variable is bound where others are. Each clause waits for one
+//! variable at a time, so each of its needs is looked at once. Each look-up is one in a table of hashes.
 #![tactic(auto)]
 
+mod agenda;
 mod bound;
 mod checking;
 mod clause;
@@ -22,8 +23,10 @@ mod scope;
 #[cfg(test)]
 mod tests;
 mod variables;
+mod waiting;
 
 pub use checking::check;
 pub use fault::SafetyFault;
+pub use key::Key;
 pub use laws::answers_exclude_one_another;
 pub use safe_program::SafeProgram;

@@ -7,7 +7,8 @@ ghost use Rattle.asp_meaning.specs.Variables.{global_variables};
 ghost use Rattle.asp_safety.specs.Binding.{IsBound, IsBoundInside, variables_of, literal_variables, occur, element_occurrences, choice_occurrences, guard_occurrences, item_occurrences, head_occurrences, occurrences};
 ghost use Rattle.asp_safety.specs.Walks.{IsScope, Misses, Finds};
 
-use crate::bound::{is_met, set_of, settle};
+use crate::agenda::settle;
+use crate::bound::{is_met, set_of};
 use crate::clauses::{keep_local, push_body_clauses, push_condition_clauses};
 use crate::key::Key;
 use crate::variables::{

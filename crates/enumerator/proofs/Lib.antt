@@ -1,7 +1,20 @@
-pub mod HornLemmas
-pub mod Names
-pub mod Open
-pub mod Loops
-pub mod Sorted
-pub mod Whole
-pub mod Promises
+mod Empty
+mod Unlisted
+mod Telling
+mod Standing
+mod Measuring
+mod Names
+mod Readying
+mod Allowing
+mod Stepping
+mod Instancing
+mod Choosing
+mod Learning
+mod Filling
+mod Showing
+mod Ending
+mod Lines
+mod Counting
+mod Naming
+mod Rounding
+mod Answering

@@ -1,12 +1,18 @@
 //! Answer sets, one after another, each written as it is found.
 //!
-//! What is built: programs of facts, positive rules and constraints over names. Such a program has one answer set or none.
+//! The search chooses bodies and propagates values until a nogood is struck, an atom stays must-be-true, or a set is found; then it
+//! learns the literals chosen as a nogood, and goes on. It is `search_plain`, over the programs that `plain_rules` speaks of.
 #![tactic(auto)]
 
-mod derivation;
-mod line;
+mod advance;
+mod answers;
+mod making;
+mod moves;
 mod search;
+mod settle;
+mod steps;
+#[cfg(test)]
+mod tests;
 
-pub use derivation::{derive, is_broken};
-pub use line::set_line;
-pub use search::{End, SearchFault, search_plain};
+pub use answers::{End, SearchFault, Settings};
+pub use search::search_plain;

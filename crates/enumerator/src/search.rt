@@ -1,63 +1,109 @@
-ghost use Rattle.std.specs.Prelude.{◌≡◌, ◌≤◌, [], ◌∷◌, IfOk, IfSome, IfNone};
-ghost use Rattle.lists.specs.Lists.{Each};
-ghost use Rattle.asp_meaning.specs.Output.{IsAnswerSetLine, IsBraceLine, HaveAll};
-ghost use Rattle.asp_meaning.specs.Horn.{IsHorn};
-ghost use Rattle.enumerator.specs.Search.{SearchAnswer};
+//! The search: the names of the program's atoms first, and then round after round until no set is left.
 
-use crate::{derive, is_broken, set_line};
-use alpha_outside::{OutOfMemory, Sink, SinkStop};
-use asp_syntax::{Program, Statement};
+ghost use Rattle.std.specs.Prelude.{◌≡◌, ◌≤◌, ◌<◌, length, OnOk, IfOk, IfErr};
+ghost use Rattle.plain_rules.specs.Plain.{IsPlainProgram};
+ghost use Rattle.enumerator.specs.Search.{SearchAnswer};
+ghost use Rattle.enumerator.specs.Standing.{IsReady};
+ghost use Rattle.enumerator.specs.Settling.{StandsSomewhere, EndsFrom, LeavesFrom, ended};
+ghost use Rattle.enumerator.specs.Naming.{AreNoted, IsNamingFault};
+
+use crate::advance::advance;
+use crate::answers::{End, SearchFault, Settings};
+use crate::settle::{Finish, settle};
+use crate::steps::noted;
+use alpha_outside::{AtomId, Sink, Trace};
+use asp_syntax::Program;
+use ground_search::Search;
+use plain_program::PlainProgram;
 use std::alloc::Global;
 
-/// How a search ended by itself.
-#[derive(Clone, Copy, Debug, PartialEq, Eq)]
-pub enum End {
-    /// Every answer set was written; `printed` is how many.
-    Finished { printed: u64 },
-}
-
-/// Why a search stopped.
-#[derive(Clone, Copy, Debug, PartialEq, Eq)]
-pub enum SearchFault {
-    WriteFault,
-    OutOfMemory,
-}
-
-// The line of the one answer set, if there is one.
-fn only_line(alloc: Global, statements: &[Statement]) -> Result<Option<Vec<u8>>, OutOfMemory>
-    requires { Each IsHorn statements.now }
-    ensures none { IfOk result (λ o. IfNone o (HaveAll statements.now [])) }
-    ensures line { IfOk result (λ o. IfSome o (λ v. IsAnswerSetLine statements.now v.items)) }
-    ensures whole { IfOk result (λ o. IfSome o (λ v. IsBraceLine v.items)) }
-    ensures all { IfOk result (λ o. IfSome o (λ v. HaveAll statements.now (v.items ∷ []))) }
+// Notes the names of the program's atoms.
+fn name_atoms<T: Trace>(
+    program: &PlainProgram,
+    alloc: Global,
+    trace: &mut T,
+) -> Result<(), SearchFault>
+    ensures later { T.faults trace.old ≤ T.faults trace.new }
+    ensures ok { OnOk result (AreNoted program.now (T.journal trace.old) (T.journal trace.new) (length program.now.names)) }
+    ensures err { IfErr result (IsNamingFault program.now (T.journal trace.old) (T.journal trace.new) (T.faults trace.old) (T.faults trace.new)) }
 {
-    let derived = derive(alloc, statements)?;
-    if is_broken(statements, &derived) {
-        return Ok(None);
+    'naming: for id in 0..program.len() {
+        let Ok(event) = program.naming(alloc, AtomId(id)) else {
+            return Err(SearchFault::OutOfMemory);
+        };
+        noted(trace, &event)?;
     }
-    let line = set_line(alloc, derived)?;
-    Ok(Some(line))
+    Ok(())
 }
 
-/// Writes the line of each answer set of a program of facts, positive rules and constraints over names, as one piece each.
-pub fn search_plain<O: Sink>(
+// Takes rounds until the search ends; `left` is how many sets may still be written, and `rest` how many nogoods struck.
+fn rounds<O: Sink, T: Trace>(
+    search: &mut Search,
+    alloc: Global,
+    out: &mut O,
+    trace: &mut T,
+    left: &mut u64,
+    rest: &mut u64,
+) -> Result<Finish, SearchFault>
+    requires ready { IsReady search.old }
+    requires room { 0 < left.old }
+    requires stands { StandsSomewhere search.old (T.journal trace.old) (O.held out.old) left.old rest.old }
+    ensures out_later { O.faults out.old ≤ O.faults out.new }
+    ensures later { T.faults trace.old ≤ T.faults trace.new }
+    ensures fewer { left.new ≤ left.old }
+    ensures ok { IfOk result (EndsFrom search.old (T.journal trace.old) (T.journal trace.new) (O.held out.old) (O.held out.new) (left.old, rest.old) (left.new, rest.new)) }
+    ensures err { IfErr result (LeavesFrom search.old (T.journal trace.old) (T.journal trace.new) (O.held out.old) (O.held out.new) (left.old, rest.old)
+        (O.faults out.old, O.faults out.new) (T.faults trace.old, T.faults trace.new)) }
+{
+    'rounds: loop {
+        let found = advance(search, alloc, trace)?;
+        let finish = settle(search, alloc, found, out, trace, left, rest)?;
+        match finish {
+            Some(how) => return Ok(how),
+            None => (),
+        }
+    }
+}
+
+// How a search ended that wrote so many sets.
+fn end_by(finish: Finish, printed: u64) -> End
+    ensures { result ≡ ended finish printed }
+{
+    match finish {
+        Finish::Finished => End::Finished { printed },
+        Finish::LimitReached => End::LimitReached { printed },
+        Finish::Conflicts => End::Conflicts { printed },
+    }
+}
+
+/// Writes the line of each answer set of a program of facts, rules with `not` and constraints over names, as one piece each, and
+/// notes each event.
+pub fn search_plain<O: Sink, T: Trace>(
     alloc: Global,
     program: Program,
+    settings: Settings,
     out: &mut O,
+    trace: &mut T,
 ) -> Result<End, SearchFault>
-    requires { Each IsHorn program.statements }
-    ensures later { O.faults out.old ≤ O.faults out.new }
-    ensures answer { SearchAnswer program.statements (O.held out.old) (O.held out.new) (O.faults out.old) (O.faults out.new) result }
+    requires plain { IsPlainProgram program.statements }
+    requires some { 0 < settings.limit }
+    ensures out_later { O.faults out.old ≤ O.faults out.new }
+    ensures trace_later { T.faults trace.old ≤ T.faults trace.new }
+    ensures answer { SearchAnswer program.statements settings
+        (record { held = O.held out.old; held' = O.held out.new; faults = O.faults out.old; faults' = O.faults out.new })
+        (record { told = T.journal trace.old; told' = T.journal trace.new; faults = T.faults trace.old; faults' = T.faults trace.new })
+        result }
 {
-    let Ok(line) = only_line(alloc, program.statements.as_slice()) else {
+    let Ok(ground) = PlainProgram::new(alloc, program.statements.as_slice()) else {
         return Err(SearchFault::OutOfMemory);
     };
-    let Some(line) = line else {
-        return Ok(End::Finished { printed: 0 });
+    name_atoms(&ground, alloc, trace)?;
+    let Ok(mut search) = Search::new(alloc, ground) else {
+        return Err(SearchFault::OutOfMemory);
     };
-    match out.write(&line) {
-        Ok(()) => Ok(End::Finished { printed: 1 }),
-        Err(SinkStop::Failed) => Err(SearchFault::WriteFault),
-        Err(SinkStop::OutOfMemory) => Err(SearchFault::OutOfMemory),
-    }
+    let mut left = settings.limit;
+    let mut rest = settings.conflicts;
+    let finish = rounds(&mut search, alloc, out, trace, &mut left, &mut rest)?;
+    let printed = settings.limit - left;
+    Ok(end_by(finish, printed))
 }

@@ -150,16 +150,16 @@ fn is_choice(trail: &Trail, entry: &Entry) -> bool
 }
 
 impl Search {
-    /// The first nogood that is unit or struck.
+    /// A nogood that is unit or struck. It looks at those alone that together say all that is stored.
     pub fn find(&self) -> Finding
         ensures { FoundIs self.now result }
     {
-        for n in 0..self.nogoods.len() {
-            let id = NogoodId(n);
-            match look_at(&self.trail, self.nogoods.lits(id), self.nogoods.head(id)) {
+        let enough = self.nogoods.enough();
+        for id in enough {
+            match look_at(&self.trail, self.nogoods.lits(*id), self.nogoods.head(*id)) {
                 Visit::Idle => (),
-                Visit::Unit(atom, value) => return Finding::Unit(id, atom, value),
-                Visit::Struck => return Finding::Struck(id),
+                Visit::Unit(atom, value) => return Finding::Unit(*id, atom, value),
+                Visit::Struck => return Finding::Struck(*id),
             }
         }
         Finding::Quiet

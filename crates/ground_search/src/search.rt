@@ -205,6 +205,7 @@ impl Search {
         requires no_atom_twice { HasNoAtomTwice lits.now }
         ensures id { IfOk result (λ n. n ≡ length self.old.nogoods) }
         ensures ok { OnOk result (self.new ≡ record self.old { nogoods = self.old.nogoods ++ record { lits = lits.now; head = None } ∷ []; phase = phase_learned self.old.phase (length self.old.nogoods) lits.now }) }
+        ensures ids_fit { ids self.old < 2 ^ 32 }
     {
         let nogood = self.nogoods.add(lits, None)?;
         self.stage = stage_learned(self.stage, nogood, lits.is_empty());

@@ -1,7 +1,7 @@
 use Rattle.alpha.proofs.Messages.{written, cut_off, no_message, nothing_for_memory, kept_for_memory}
 use Rattle.std.proofs.Common.{rules, take}
 use Rattle.std.proofs.KnownBytes.{Keeps-refl}
-use Rattle.alpha.proofs.Shown.{only_appends, only_keeps}
+use Rattle.alpha.proofs.Appended.{only_appends, only_keeps}
 use Rattle.alpha.proofs.run.report.Goals as goal
 
 pub returns-then-not-has_message-clause-message : goal.returns-then-not-has_message-clause-message

@@ -1,33 +1,65 @@
-use Rattle.alpha.proofs.Clauses.{reported, output, output_appends, caused, refused_words, ends, shown_are_answer_sets, shown_once, finished_is_complete}
-use Rattle.std.proofs.Common.{subst}
-use Rattle.alpha.specs.Outcomes.{Outcome}
+use Rattle.alpha.proofs.Clauses.{reported, output, output_appends, events_appended, unnoted, caused, refused_words}
+use Rattle.alpha.proofs.Accepted.{too_long_comes, refusal_comes, accepted_ends, shown_are_answer_sets, shown_once, finished_is_complete, journal_is_legal, budget_is_spent, lines_are_shown_events}
+use Rattle.alpha.proofs.Appended.{name_kept}
 use Rattle.alpha.proofs.run.run.Goals as goal
 
 pub returns-clause-shown_are_answer_sets : goal.returns-clause-shown_are_answer_sets
 returns-clause-shown_are_answer_sets g c = λ P b a is.
-    shown_are_answer_sets _ _ _ _ _ _ _ P a b is c.report.result (reported _ _ _ _ _ _ _ _ _ c.work-status.ensures.outcome c.report.ensures.same)
+    shown_are_answer_sets _ _ _ _ _ P a c.report.result (reported _ _ _ _ _ _ _ c.work-status.ensures.outcome c.report.ensures.same) b is
 
 pub returns-clause-shown_once : goal.returns-clause-shown_once
 returns-clause-shown_once g c = λ P b a is.
-    shown_once _ _ _ _ _ _ _ P a b is c.report.result (reported _ _ _ _ _ _ _ _ _ c.work-status.ensures.outcome c.report.ensures.same)
+    shown_once _ _ _ _ _ P a c.report.result (reported _ _ _ _ _ _ _ c.work-status.ensures.outcome c.report.ensures.same) b is
 
 pub returns-clause-finished_is_complete : goal.returns-clause-finished_is_complete
 returns-clause-finished_is_complete g c = λ P b printed a is e.
-    finished_is_complete _ _ _ _ _ _ _ P a b is printed (subst (Outcome _ _ _ _ _ _ _) e (reported _ _ _ _ _ _ _ _ _ c.work-status.ensures.outcome c.report.ensures.same))
+    finished_is_complete _ _ _ _ _ P a c.report.result (reported _ _ _ _ _ _ _ c.work-status.ensures.outcome c.report.ensures.same) b is printed e
+
+pub returns-clause-journal_is_legal : goal.returns-clause-journal_is_legal
+returns-clause-journal_is_legal g c = λ P E a noted.
+    journal_is_legal _ _ _ _ _ P a c.report.result (reported _ _ _ _ _ _ _ c.work-status.ensures.outcome c.report.ensures.same) E noted
+
+pub returns-clause-lines_are_shown_events : goal.returns-clause-lines_are_shown_events
+returns-clause-lines_are_shown_events g c = λ P b E a is noted.
+    lines_are_shown_events _ _ _ _ _ P a c.report.result (reported _ _ _ _ _ _ _ c.work-status.ensures.outcome c.report.ensures.same) E noted b is
+
+pub returns-clause-budget_is_spent : goal.returns-clause-budget_is_spent
+returns-clause-budget_is_spent g c = λ P E number printed a noted e.
+    budget_is_spent _ _ _ _ _ P a c.report.result (reported _ _ _ _ _ _ _ c.work-status.ensures.outcome c.report.ensures.same) E noted number printed e
+
+pub returns-clause-output_is_appended : goal.returns-clause-output_is_appended
+returns-clause-output_is_appended g c = output_appends _ _ _ _ _ c.report.result (reported _ _ _ _ _ _ _ c.work-status.ensures.outcome c.report.ensures.same)
 
 pub returns-clause-output_bytes : goal.returns-clause-output_bytes
 returns-clause-output_bytes g c = λ b is.
-    output _ _ _ _ _ _ b is _ c.report.result (reported _ _ _ _ _ _ _ _ _ c.work-status.ensures.outcome c.report.ensures.same)
+    output _ _ _ _ b is _ c.report.result (reported _ _ _ _ _ _ _ c.work-status.ensures.outcome c.report.ensures.same)
 
-pub returns-clause-output_is_appended : goal.returns-clause-output_is_appended
-returns-clause-output_is_appended g c = output_appends _ _ _ _ _ _ _ c.report.result (reported _ _ _ _ _ _ _ _ _ c.work-status.ensures.outcome c.report.ensures.same)
+pub returns-clause-events_are_appended : goal.returns-clause-events_are_appended
+returns-clause-events_are_appended g c = events_appended _ _ _ _ _ c.report.result (reported _ _ _ _ _ _ _ c.work-status.ensures.outcome c.report.ensures.same)
+
+pub returns-clause-nothing_is_noted : goal.returns-clause-nothing_is_noted
+returns-clause-nothing_is_noted g c = λ un. unnoted _ _ _ _ _ c.report.result (reported _ _ _ _ _ _ _ c.work-status.ensures.outcome c.report.ensures.same) un
+
+pub returns-clause-message_and_trace_name : goal.returns-clause-message_and_trace_name
+returns-clause-message_and_trace_name g c = (
+  c.report.ensures.message,
+  name_kept _ _ (events_appended _ _ _ _ _ c.report.result (reported _ _ _ _ _ _ _ c.work-status.ensures.outcome c.report.ensures.same)),
+)
 
 pub returns-clause-causes : goal.returns-clause-causes
-returns-clause-causes g c = caused _ _ _ _ _ _ _ c.report.result (reported _ _ _ _ _ _ _ _ _ c.work-status.ensures.outcome c.report.ensures.same)
+returns-clause-causes g c = caused _ _ _ _ _ c.report.result (reported _ _ _ _ _ _ _ c.work-status.ensures.outcome c.report.ensures.same)
 
 pub returns-clause-refused_words : goal.returns-clause-refused_words
-returns-clause-refused_words g c = refused_words _ _ _ _ _ _ _ c.report.result (reported _ _ _ _ _ _ _ _ _ c.work-status.ensures.outcome c.report.ensures.same)
+returns-clause-refused_words g c = refused_words _ _ _ _ _ c.report.result (reported _ _ _ _ _ _ _ c.work-status.ensures.outcome c.report.ensures.same)
+
+pub returns-clause-each_refusal : goal.returns-clause-each_refusal
+returns-clause-each_refusal g c = λ reason a read.
+    refusal_comes _ _ _ _ reason _ c.report.result a (reported _ _ _ _ _ _ _ c.work-status.ensures.outcome c.report.ensures.same) read
 
 pub returns-clause-accepted_ends : goal.returns-clause-accepted_ends
-returns-clause-accepted_ends g c = λ P a read write.
-    ends _ _ _ _ _ _ _ P a c.report.result (reported _ _ _ _ _ _ _ _ _ c.work-status.ensures.outcome c.report.ensures.same) read write
+returns-clause-accepted_ends g c = λ P a read write note.
+    accepted_ends _ _ _ _ _ P a c.report.result (reported _ _ _ _ _ _ _ c.work-status.ensures.outcome c.report.ensures.same) read write note
+
+pub returns-clause-each_too_long : goal.returns-clause-each_too_long
+returns-clause-each_too_long g c = λ name a read.
+    too_long_comes _ _ _ _ name _ c.report.result a (reported _ _ _ _ _ _ _ c.work-status.ensures.outcome c.report.ensures.same) read

@@ -1,4 +1,4 @@
-use Rattle.asp_safety.proofs.Settling.{kept_on, all_kept}
+use Rattle.asp_safety.proofs.Locals.{kept_on, all_kept}
 use Rattle.asp_safety.proofs.clauses.keep_local.Goals as goal
 
 pub moving-preserved : goal.moving-preserved

@@ -1,5 +1,5 @@
 use Rattle.asp_strata.proofs.Loops.{on_ok}
-use Rattle.asp_safety.proofs.Settling.{push_local}
+use Rattle.asp_safety.proofs.Locals.{push_local}
 use Rattle.asp_safety.proofs.clauses.keep_one.Goals as goal
 
 pub returns-else-is_in : goal.returns-else-is_in

@@ -1,0 +1,4 @@
+pub mod FreeLemmas
+pub mod TableLemmas
+pub mod LiftLemmas
+pub mod Building

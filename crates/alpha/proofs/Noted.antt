@@ -1,0 +1,190 @@
+-- What the events of a run tell, from the journal of its search.
+use Rattle.std.proofs.Common.{◌≡◌, refl, sym, ap, subst, ◌∙◌, ℕ, ◌+◌, arith, List, [], ◌∷◌, ◌++◌}
+use Rattle.std.specs.Prelude.{reverse}
+use Rattle.std.proofs.lemmas.List.{reverse-append}
+use Rattle.alpha_outside.specs.declared.event.Event as outside
+use Rattle.alpha_outside.specs.declared.event.Event.TheVariants as say
+use Rattle.asp_syntax.specs.declared.tree.Statement.{Statement}
+use Rattle.search_theory.specs.States.{State}
+use Rattle.search_theory.specs.Journals.{Says, SaysAll, replay}
+use Rattle.search_theory.specs.Events.{happens}
+use Rattle.plain_rules.specs.Rules.{plain_rules}
+use Rattle.enumerator.specs.Search.{TraceChange, Journaled}
+use Rattle.enumerator.specs.Journals.{Core, Step, Reached, Tells, strikes, AreLinesOf}
+use Rattle.alpha.specs.Journals.{shown_sets, struck_events, AreShownLines, HasSpent, AreSpent}
+use Rattle.alpha.specs.Promises.{IsNoted}
+use Rattle.alpha.proofs.Appended.{noted_is, adds_nothing}
+
+-- ---- event by event
+
+-- the sets that one event shows
+shown_by : outside.Event → List (List ℕ)
+shown_by (say.Shown ids) = ids ∷ []
+shown_by _ = []
+
+shown_sets-cons : (e : outside.Event) (events : List outside.Event) → shown_sets (e ∷ events) ≡ shown_by e ++ shown_sets events
+unfolding shown_by
+shown_sets-cons (say.Term id node) events = refl
+shown_sets-cons (say.Atom id pred args) events = refl
+shown_sets-cons (say.Body id inst) events = refl
+shown_sets-cons (say.Numbered atom number) events = refl
+shown_sets-cons (say.Made inst maker) events = refl
+shown_sets-cons (say.Put atom value by) events = refl
+shown_sets-cons (say.Chosen body up) events = refl
+shown_sets-cons (say.Closed atom) events = refl
+shown_sets-cons (say.Struck nogood) events = refl
+shown_sets-cons (say.Kept nogood) events = refl
+shown_sets-cons (say.Learned nogood how lits cover) events = refl
+shown_sets-cons (say.Back level) events = refl
+shown_sets-cons (say.Wide atom count) events = refl
+shown_sets-cons (say.Shown ids) events = refl
+shown_sets-cons (say.Passed ids) events = refl
+
+-- how many nogoods one event strikes
+struck_by : outside.Event → ℕ
+struck_by (say.Struck nogood) = 1
+struck_by _ = 0
+
+struck_events-cons : (e : outside.Event) (events : List outside.Event) → struck_events (e ∷ events) ≡ struck_events events + struck_by e
+unfolding struck_by
+struck_events-cons (say.Term id node) events = omega arith
+struck_events-cons (say.Atom id pred args) events = omega arith
+struck_events-cons (say.Body id inst) events = omega arith
+struck_events-cons (say.Numbered atom number) events = omega arith
+struck_events-cons (say.Made inst maker) events = omega arith
+struck_events-cons (say.Put atom value by) events = omega arith
+struck_events-cons (say.Chosen body up) events = omega arith
+struck_events-cons (say.Closed atom) events = omega arith
+struck_events-cons (say.Struck nogood) events = refl
+struck_events-cons (say.Kept nogood) events = omega arith
+struck_events-cons (say.Learned nogood how lits cover) events = omega arith
+struck_events-cons (say.Back level) events = omega arith
+struck_events-cons (say.Wide atom count) events = omega arith
+struck_events-cons (say.Shown ids) events = omega arith
+struck_events-cons (say.Passed ids) events = omega arith
+
+-- ---- the newest event
+
+list_assoc : (xs ys zs : List (List ℕ)) → (xs ++ ys) ++ zs ≡ xs ++ (ys ++ zs)
+list_assoc [] ys zs = refl
+list_assoc (x ∷ xs) ys zs = ap (λ l. x ∷ l) (list_assoc xs ys zs)
+
+no_sets : (xs : List (List ℕ)) → xs ++ [] ≡ xs
+no_sets [] = refl
+no_sets (x ∷ xs) = ap (λ l. x ∷ l) (no_sets xs)
+
+shown_sets-push : (events : List outside.Event) (last : outside.Event) → shown_sets (events ++ last ∷ []) ≡ shown_sets events ++ shown_by last
+shown_sets-push [] last = shown_sets-cons last [] ∙ no_sets (shown_by last)
+shown_sets-push (e ∷ events) last =
+    shown_sets-cons e (events ++ last ∷ [])
+    ∙ (ap (λ xs. shown_by e ++ xs) (shown_sets-push events last)
+    ∙ (sym (list_assoc (shown_by e) (shown_sets events) (shown_by last)) ∙ ap (λ xs. xs ++ shown_by last) (sym (shown_sets-cons e events))))
+
+struck_events-push : (events : List outside.Event) (last : outside.Event) → struck_events (events ++ last ∷ []) ≡ struck_events events + struck_by last
+struck_events-push [] last = struck_events-cons last []
+struck_events-push (e ∷ events) last =
+    let first = struck_events-cons e (events ++ last ∷ []) in
+    let rest = struck_events-push events last in
+    let same = struck_events-cons e events in
+    omega arith
+
+-- ---- what one event says
+
+module _ (core : Core) where
+  -- the sets shown, in order
+  in_order : Reached → List (List ℕ)
+  in_order s = reverse (State.shown s)
+
+  shown_next : (s : Reached) (ids : List ℕ) → reverse (ids ∷ State.shown s) ≡ reverse (State.shown s) ++ ids ∷ []
+  shown_next s ids = reverse-append (ids ∷ []) (State.shown s)
+
+  says_shown : (s : Reached) (last : outside.Event) (e : Step) → Says core s last e → reverse (State.shown (happens core s e)) ≡ reverse (State.shown s) ++ shown_by last
+  unfolding shown_by
+  says_shown s (say.Term id node) e is = rw is.1 (sym (no_sets (reverse (State.shown s))))
+  says_shown s (say.Atom id pred args) e is = rw is.2.2 (sym (no_sets (reverse (State.shown s))))
+  says_shown s (say.Body id inst) e is = rw is.2 (sym (no_sets (reverse (State.shown s))))
+  says_shown s (say.Numbered atom number) e is = rw is.1 (sym (no_sets (reverse (State.shown s))))
+  says_shown s (say.Made inst maker) e is = rw is.1.2 (sym (no_sets (reverse (State.shown s))))
+  says_shown s (say.Put atom value by) e is = rw is (sym (no_sets (reverse (State.shown s))))
+  says_shown s (say.Chosen body up) e is = rw is (sym (no_sets (reverse (State.shown s))))
+  says_shown s (say.Closed atom) e is = rw is (sym (no_sets (reverse (State.shown s))))
+  says_shown s (say.Struck nogood) e is = rw is (sym (no_sets (reverse (State.shown s))))
+  says_shown s (say.Kept nogood) e is = absurd is
+  says_shown s (say.Learned nogood how lits cover) e is = rw is.2 (sym (no_sets (reverse (State.shown s))))
+  says_shown s (say.Back level) e is = rw is (sym (no_sets (reverse (State.shown s))))
+  says_shown s (say.Wide atom count) e is = absurd is
+  says_shown s (say.Shown ids) e is = rw is (shown_next s ids)
+  says_shown s (say.Passed ids) e is = rw is (sym (no_sets (reverse (State.shown s))))
+
+  says_struck : (s : Reached) (last : outside.Event) (e : Step) (earlier : List Step) → Says core s last e → strikes (e ∷ earlier) ≡ strikes earlier + struck_by last
+  unfolding struck_by
+  says_struck s (say.Term id node) e earlier is = rw is.1 (omega arith)
+  says_struck s (say.Atom id pred args) e earlier is = rw is.2.2 (omega arith)
+  says_struck s (say.Body id inst) e earlier is = rw is.2 (omega arith)
+  says_struck s (say.Numbered atom number) e earlier is = rw is.1 (omega arith)
+  says_struck s (say.Made inst maker) e earlier is = rw is.1.2 (omega arith)
+  says_struck s (say.Put atom value by) e earlier is = rw is (omega arith)
+  says_struck s (say.Chosen body up) e earlier is = rw is (omega arith)
+  says_struck s (say.Closed atom) e earlier is = rw is (omega arith)
+  says_struck s (say.Struck nogood) e earlier is = rw is refl
+  says_struck s (say.Kept nogood) e earlier is = absurd is
+  says_struck s (say.Learned nogood how lits cover) e earlier is = rw is.2 (omega arith)
+  says_struck s (say.Back level) e earlier is = rw is (omega arith)
+  says_struck s (say.Wide atom count) e earlier is = absurd is
+  says_struck s (say.Shown ids) e earlier is = rw is (omega arith)
+  says_struck s (say.Passed ids) e earlier is = rw is (omega arith)
+
+  -- ---- a whole journal
+
+  -- the sets of the `Shown` events are those that the replay has as shown
+  shown_is : (E : List outside.Event) (journal : List Step) → SaysAll core E journal → shown_sets E ≡ reverse (State.shown (replay core journal))
+  shown_is E [] says = ap shown_sets says
+  shown_is E (e ∷ earlier) says =
+      ap shown_sets says.2
+      ∙ (shown_sets-push says.0 says.1
+      ∙ (ap (λ xs. xs ++ shown_by says.1) (shown_is says.0 earlier says.3) ∙ sym (says_shown (replay core earlier) says.1 e says.4)))
+
+  struck_is : (E : List outside.Event) (journal : List Step) → SaysAll core E journal → struck_events E ≡ strikes journal
+  struck_is E [] says = ap struck_events says
+  struck_is E (e ∷ earlier) says =
+      ap struck_events says.2
+      ∙ (struck_events-push says.0 says.1
+      ∙ (ap (λ n. n + struck_by says.1) (struck_is says.0 earlier says.3) ∙ sym (says_struck (replay core earlier) says.1 e earlier says.4)))
+
+-- ---- of a run
+
+module _ (P : List Statement) (trace : TraceChange) where
+  -- where nothing was noted
+  pub nothing_journaled : trace.told' ≡ trace.told → Journaled P trace []
+  nothing_journaled kept = record {
+    journal = [];
+    legal = tt;
+    tells = ([], adds_nothing trace.told trace.told' kept, refl);
+    shown = tt;
+  }
+
+  module _ (E : List outside.Event) (is : IsNoted trace.told trace.told' E) where
+    -- the events say the journal that was told
+    said : (journal : List Step) → Tells (plain_rules P) trace.told trace.told' journal → SaysAll (plain_rules P) E journal
+    said journal tells = subst (λ events. SaysAll (plain_rules P) events journal) (noted_is trace.told trace.told' E tells.0 is tells.1) tells.2
+
+    pub shown_lines : (lines : List (List ℕ)) → Journaled P trace lines → AreShownLines P E lines
+    shown_lines lines j =
+        let says = said j.journal j.tells in
+        record {
+          journal = j.journal;
+          legal = j.legal;
+          says = says;
+          lines_are = subst (λ sets. AreLinesOf (replay (plain_rules P) j.journal) sets lines) (sym (shown_is (plain_rules P) E j.journal says)) j.shown;
+        }
+
+    pub spent : (number : ℕ) → HasSpent P trace number → AreSpent P E number
+    spent number h =
+        let says = said h.journal h.tells in
+        record {
+          journal = h.journal;
+          legal = h.legal;
+          says = says;
+          count = struck_is (plain_rules P) E h.journal says ∙ h.struck;
+          one_more = h.one_more;
+        }

@@ -1,0 +1,4 @@
+pub mod Parts
+pub mod Bounds
+pub mod Singles
+pub mod Sets

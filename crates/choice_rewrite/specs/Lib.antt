@@ -1,0 +1,4 @@
+pub mod SingleRules
+pub mod AnswerSets
+pub mod Conditions
+pub mod Splitting

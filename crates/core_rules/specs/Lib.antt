@@ -1,0 +1,4 @@
+pub mod Variables
+pub mod Dependence
+pub mod CoreForm
+pub mod Names

@@ -1,0 +1,323 @@
+-- How a round ends: the search goes on, or it is at its end.
+use Rattle.std.proofs.Common.{◌≡◌, ℕ, ◌+◌, ◌-◌, ◌^◌, ◌<◌, ◌≤◌, ◌⊎◌, Bool, true, false, List, [], ◌∷◌, ◌++◌, length, refl, sym, ◌∙◌, ap, subst, inl, inr, arith}
+use Rattle.std.specs.Prelude.{Option, Some, None, Result, Ok, Err, OnOk, IfOk, slice_get}
+use Rattle.std.specs.Bool.{◌==◌}
+use Rattle.lists.specs.Lists.{◌∈◌}
+use Rattle.lists.proofs.ListLemmas.{∈-append_cases}
+use Rattle.alpha_outside.specs.Outside as outside
+use Rattle.alpha_outside.specs.declared.literal.Lit.{Lit}
+use Rattle.search_theory.specs.declared.entry.Entry.{Entry}
+use Rattle.search_theory.specs.Values.{level_of, opened, chosen, all_at_0, HasClosed}
+use Rattle.search_theory.specs.Nogoods.{Nogood, IsStruck}
+use Rattle.search_theory.specs.States as phase
+use Rattle.search_theory.specs.States.{State, Phase}
+use Rattle.search_theory.specs.Events.{How, Decisions, Enumerated, phase_struck, phase_learned, lits_at, lits_in}
+use Rattle.search_theory.proofs.Basics.{get_last, in_single}
+use Rattle.ground_search.specs.Searching.{Searching, ids, jump_of}
+use Rattle.enumerator.specs.Journals.{Reached, SomeStruck}
+use Rattle.enumerator.specs.Standing as standing
+use Rattle.enumerator.specs.Standing.{Stands, StandsAt, Fits, Carries, Ends, EndsBy, IsReady, IsFirm, IsGrounded, BareAreMade, IsTraceFault, IsRoundFault, Leaves}
+use Rattle.enumerator.specs.Moves.{MoveIs}
+use Rattle.enumerator.specs.declared.moves.Move.TheVariants as move
+use Rattle.enumerator.specs.declared.answers.SearchFault.{SearchFault}
+use Rattle.enumerator.specs.declared.answers.SearchFault.TheVariants.{WriteFault, TraceFault, OutOfMemory}
+use Rattle.enumerator.specs.declared.settle.Finish.{Finish}
+use Rattle.enumerator.specs.declared.settle.Finish.TheVariants as finish
+use Rattle.enumerator.specs.Settling.{IsKept, IsLearned, IsFound, MayLearnNow, struck_by, learned_by, gone_back, chosen_nogood, Carried, Settled, Again, Rounds, Outcome}
+use Rattle.enumerator.proofs.Standing.{named_at, cause_on}
+use Rattle.enumerator.proofs.Readying.{none_empty, bare_made}
+use Rattle.enumerator.proofs.Choosing.{back_among, all_low, chosen_below}
+use Rattle.enumerator.proofs.Learning.{learned_struck}
+use Rattle.enumerator.proofs.Stepping.{fits_after}
+
+-- ---- the end
+
+module _ (g : standing.Given) (v : Searching) (told : Option outside.Journal) (held : Option (List ℕ)) (left rest : ℕ) (fits : Fits g v) (s : Stands g v told held left rest) where
+  ends_by : (how : Finish) → EndsBy g.core s.0 left rest how → Ends g told held left rest how
+  ends_by how is = record {
+    journal = s.0;
+    legal = s.1.legal;
+    tells = s.1.tells;
+    named = named_at g v told held left rest s.0 fits s.1;
+    hands = s.1.hands;
+    sets_left = s.1.sets_left;
+    strikes_left = s.1.strikes_left;
+    how_is = is;
+  }
+
+  -- as many nogoods were struck as may be, and one more is struck
+  pub ends_struck : 0 < left → rest ≡ 0 → (n : ℕ) × (ng : Nogood) × (slice_get v.nogoods n ≡ Some ng) × IsStruck v.stack ng → Ends g told held left rest finish.Conflicts
+  ends_struck room none struck = ends_by finish.Conflicts (room, none, subst (λ (z : Reached). SomeStruck z) s.1.is struck)
+
+  -- so it is where the nogood just learned is to be struck
+  pub ends_learned : 0 < left → rest ≡ 0 → (n : ℕ) → v.phase ≡ phase.MustStrike n → Ends g told held left rest finish.Conflicts
+  ends_learned room none n e = let w = learned_struck g v told held left rest s.0 s.1 n e in ends_struck room none (n, w.0, w.1, w.2)
+
+  -- the journal has ended
+  pub ends_over : 0 < left → v.phase ≡ phase.Over → Ends g told held left rest finish.Finished
+  ends_over room e = ends_by finish.Finished (room, inl (sym (ap (λ (z : Reached). z.phase) s.1.is) ∙ e))
+
+  -- a set was found while no literal was chosen
+  pub ends_found : 0 < left → v.phase ≡ phase.Found → chosen v.stack ≡ [] → Ends g told held left rest finish.Finished
+  ends_found room e none = ends_by finish.Finished (room, inr (sym (ap (λ (z : Reached). z.phase) s.1.is) ∙ e, sym (ap (λ (z : Reached). chosen z.stack) s.1.is) ∙ none))
+
+  -- as many sets were shown as may be
+  pub ends_limit : left ≡ 0 → Ends g told held left rest finish.LimitReached
+  ends_limit none = ends_by finish.LimitReached none
+
+-- ---- counts
+
+-- one strike was taken
+pub carried_less : (v v' : Searching) (told told' : Option outside.Journal) (held : Option (List ℕ)) (left rest : ℕ) → Carried v v' told told' 1 → ¬ (rest ≡ 0) → Carries v v' told told' held held (left, rest) (left, rest - 1)
+carried_less v v' told told' held left rest c some g fits s =
+    let same : rest - 1 + 1 ≡ rest = omega (arith, some) in
+    c held left (rest - 1) g fits (subst (λ z. Stands g v told held left z) (sym same) s)
+
+-- none was taken
+pub carried_same : (v v' : Searching) (told told' : Option outside.Journal) (held : Option (List ℕ)) (left rest : ℕ) → Carried v v' told told' 0 → Carries v v' told told' held held (left, rest) (left, rest)
+carried_same v v' told told' held left rest c g fits s =
+    let same : rest + 0 ≡ rest = omega arith in
+    c held left rest g fits (subst (λ z. Stands g v told held left z) (sym same) s)
+
+-- what isn't none is some
+pub some_left : (left : ℕ) → ¬ (left ≡ 0) → 0 < left
+some_left left some = omega (arith, some)
+
+-- ---- what is kept
+
+-- a struck nogood leaves what is kept
+pub kept_struck : (v v' : Searching) (n : ℕ) → v' ≡ struck_by v n → IsKept v → IsKept v'
+kept_struck v v' n is k = subst (λ (z : Searching). IsKept z) (sym is) (record { bodies = k.bodies; placed = k.placed })
+
+-- so does a learned one
+pub kept_learned : (v v' : Searching) → v' ≡ learned_by v → IsKept v → IsKept v'
+kept_learned v v' is k = subst (λ (z : Searching). IsKept z) (sym is) (record { bodies = k.bodies; placed = k.placed })
+
+-- a search that is ready keeps it
+pub kept_ready : (v : Searching) → IsReady v → IsKept v
+kept_ready v r = record { bodies = r.bodies; placed = r.placed }
+
+phase_jump : (ph : Phase) (n : ℕ) (ls : List Lit) → ((ph ≡ phase.Free) ⊎ (ph ≡ phase.MustLearn)) ⊎ ((ph ≡ phase.Found) × (¬ (ls ≡ []))) → (phase_learned ph n ls ≡ phase.MustStrike n) ⊎ ((phase_learned ph n ls ≡ phase.MustJump n) × (¬ (ls ≡ [])))
+phase_jump ph n ls (inl (inl e)) = inl (ap (λ z. phase_learned z n ls) e)
+phase_jump ph n [] (inl (inr e)) = inl (ap (λ z. phase_learned z n []) e)
+phase_jump ph n (l ∷ ls) (inl (inr e)) = inr (ap (λ z. phase_learned z n (l ∷ ls)) e, (λ none. cc))
+phase_jump ph n ls (inr w) = inr (ap (λ z. phase_learned z n ls) w.0, w.1)
+
+may_phase : (v : Searching) (how : How) → MayLearnNow v how → ((v.phase ≡ phase.Free) ⊎ (v.phase ≡ phase.MustLearn)) ⊎ ((v.phase ≡ phase.Found) × (¬ (chosen v.stack ≡ [])))
+may_phase v Decisions m = elim m.1 [ inl e ↦ inl (inr e) | inr w ↦ inl (inl w.0) ]
+may_phase v Enumerated m = inr m.1
+may_phase v Rattle.search_theory.specs.Events.Analysed m = absurd m
+may_phase v Rattle.search_theory.specs.Events.Justified m = absurd m
+
+-- the literals chosen are learned
+pub is_learned : (v v' : Searching) (how : How) → v' ≡ learned_by v → MayLearnNow v how → IsLearned v'
+is_learned v v' how is may = subst (λ (z : Searching). IsLearned z) (sym is) (record {
+  number = length v.nogoods;
+  nogood = get_last v.nogoods (chosen_nogood v);
+  phase_is = phase_jump v.phase (length v.nogoods) (chosen v.stack) (may_phase v how may);
+})
+
+-- a set found while literals were chosen is followed by going back
+pub found_jumps : (v v' : Searching) → v' ≡ learned_by v → v.phase ≡ phase.Found → (n : ℕ) × (v'.phase ≡ phase.MustJump n)
+found_jumps v v' is e = (length v.nogoods, ap (λ (z : Searching). z.phase) is ∙ ap (λ z. phase_learned z (length v.nogoods) (chosen v.stack)) e)
+
+-- ---- a nogood is struck
+
+not_over : (ph : Phase) (root : Bool) → ¬ (phase_struck ph root ≡ phase.Over) → root ≡ false
+not_over ph true n = absurd (n refl)
+not_over ph false n = refl
+
+-- where the search isn't over, the nogood isn't struck at level 0
+pub not_root : (v v' : Searching) (n : ℕ) → v' ≡ struck_by v n → ¬ (v'.phase ≡ phase.Over) → all_at_0 v.stack (lits_at v.nogoods n) ≡ false
+not_root v v' n is over = not_over v.phase (all_at_0 v.stack (lits_at v.nogoods n)) (λ e. over (ap (λ (z : Searching). z.phase) is ∙ e))
+
+-- so the search has to learn
+pub must_learn : (v v' : Searching) (n : ℕ) → v' ≡ struck_by v n → v.phase ≡ phase.Free → ¬ (v'.phase ≡ phase.Over) → v'.phase ≡ phase.MustLearn
+must_learn v v' n is e over = ap (λ (z : Searching). z.phase) is ∙ (λ i. phase_struck (e i) (not_root v v' n is over i))
+
+-- and is above level 0, where no nogood is empty
+pub firm_struck : (v v' : Searching) (n : ℕ) → v' ≡ struck_by v n → IsGrounded v → ¬ (v'.phase ≡ phase.Over) → IsFirm v'
+firm_struck v v' n is grounded over = subst (λ (z : Searching). IsFirm z) (sym is) (elim grounded [
+  | inl z ↦ (let bad : true ≡ false = sym (all_low v.stack (lits_at v.nogoods n) z) ∙ not_root v v' n is over in absurd (let k : true ≡ false = bad in cc))
+  | inr f ↦ f
+])
+
+-- the nogood just learned was struck, and is to be gone back to
+pub struck_jumps : (v v' : Searching) (n : ℕ) → v' ≡ struck_by v n → v.phase ≡ phase.MustStrike n → ¬ (v'.phase ≡ phase.Over) → (m : ℕ) × (v'.phase ≡ phase.MustJump m)
+struck_jumps v v' n is e over = (n, ap (λ (z : Searching). z.phase) is ∙ (λ i. phase_struck (e i) (not_root v v' n is over i)))
+
+-- and then some literal is chosen
+pub struck_some : (v v' : Searching) (n : ℕ) → v' ≡ struck_by v n → slice_get v.nogoods n ≡ Some (chosen_nogood v) → ¬ (v'.phase ≡ phase.Over) → ¬ (chosen v.stack ≡ [])
+struck_some v v' n is at over none =
+    let lits : lits_at v.nogoods n ≡ [] = ap lits_in at ∙ none in
+    let bad : true ≡ false = sym (ap (all_at_0 v.stack) lits) ∙ not_root v v' n is over in
+    cc
+
+-- ---- firm
+
+closed_level : (stack : List Entry) → HasClosed stack → ¬ (level_of stack ≡ 0)
+closed_level [] h z = h.1
+closed_level (e ∷ rest) h z = elim h.1 [
+  | inl q ↦ (let one : opened e.why ≡ 1 = ap opened (sym (ap (λ (x : Entry). x.why) q)) ∙ ap opened h.2.1 in omega (arith, one, z))
+  | inr i ↦ closed_level rest (h.0, i, h.2) (omega (arith, z))
+]
+
+-- no nogood is empty where an atom stays must-be-true
+pub firm_stuck : (v : Searching) → IsReady v → MoveIs v move.Stuck → IsFirm v
+firm_stuck v ready next = elim next.2 [
+  | inl closed ↦ elim ready.grounded [ inl z ↦ absurd (closed_level v.stack closed z) | inr f ↦ f ]
+  | inr idle ↦ (none_empty v.stack v.nogoods next.0.none_struck, bare_made v idle.none_due)
+]
+
+-- nor where a set is found
+pub firm_full : (v : Searching) → MoveIs v move.Full → IsFirm v
+firm_full v next = (none_empty v.stack v.nogoods next.0.none_struck, bare_made v next.1.none_due)
+
+-- ---- the search goes on
+
+-- the search went back after the literals chosen were learned
+pub again : (v v1 v2 v' : Searching) → v1.program ≡ v.program → v1.stack ≡ v.stack → v1.nogoods ≡ v.nogoods → v2 ≡ learned_by v1 → v' ≡ gone_back v2 → ¬ (chosen v1.stack ≡ []) → IsFirm v1 → IsKept v1 → ids v1 < 2 ^ 32 → Again v v'
+again v v1 v2 v' program stack nogoods learned back some firm kept few =
+    let is : v' ≡ gone_back (learned_by v1) = back ∙ ap gone_back learned in
+    record {
+      program = ap (λ (z : Searching). z.program) is ∙ program;
+      ready = subst (λ (z : Searching). IsReady z) (sym is) (record {
+        free = refl;
+        bodies = kept.bodies;
+        placed = λ e i. kept.placed e (back_among (jump_of v1.stack) v1.stack e i);
+        grounded = inr (
+          (λ ng i e. elim (∈-append_cases ng v1.nogoods (chosen_nogood v1 ∷ []) i) [
+            | inl j ↦ firm.0 ng j e
+            | inr j ↦ some (sym (ap (λ (z : Nogood). z.lits) (in_single j)) ∙ e)
+          ]),
+          firm.1,
+        );
+      });
+      learned = ap (λ (z : Searching). z.nogoods) is ∙ (λ i. nogoods i ++ record { lits = chosen (stack i); head = None } ∷ []);
+      some = λ none. some (ap chosen stack ∙ none);
+      low = subst (λ st. (l : Lit) → l ∈ chosen st → l.atom < 2 ^ 32) stack (λ l i. let k = chosen_below v1.stack (ids v1) kept.placed l i in omega (arith, k, few));
+    }
+
+-- ---- faults after a part of a round
+
+-- a fault after one strike
+pub fault_struck : (v v1 : Searching) (told told1 told' : Option outside.Journal) (rest before mid now : ℕ) (fault : SearchFault) → v1.program ≡ v.program → before ≤ mid → ¬ (rest ≡ 0)
+    → Carried v v1 told told1 1 → IsRoundFault v1 told1 told' (rest - 1) mid now fault → IsRoundFault v told told' rest before now fault
+fault_struck v v1 told told1 told' rest before mid now fault program later some carried f = record {
+  halts = λ g fits held left room s. f.halts g (fits_after g v v1 program fits) held left room (carried_less v v1 told told1 held left rest carried some g fits s);
+  cause = cause_on before mid now fault later f.cause;
+}
+
+-- and after events that strike nothing
+pub fault_same : (v v1 : Searching) (told told1 told' : Option outside.Journal) (rest before mid now : ℕ) (fault : SearchFault) → v1.program ≡ v.program → before ≤ mid
+    → Carried v v1 told told1 0 → IsRoundFault v1 told1 told' rest mid now fault → IsRoundFault v told told' rest before now fault
+fault_same v v1 told told1 told' rest before mid now fault program later carried f = record {
+  halts = λ g fits held left room s. f.halts g (fits_after g v v1 program fits) held left room (carried_same v v1 told told1 held left rest carried g fits s);
+  cause = cause_on before mid now fault later f.cause;
+}
+
+-- ---- a round
+
+-- the nogood of this number is that of the literals chosen
+struck_number : Phase → ℕ
+struck_number (phase.MustStrike n) = n
+struck_number _ = 0
+
+pub learned_at : (v : Searching) → IsLearned v → (n : ℕ) → v.phase ≡ phase.MustStrike n → slice_get v.nogoods n ≡ Some (chosen_nogood v)
+unfolding struck_number
+learned_at v l n e = elim l.phase_is [
+  | inl q ↦ subst (λ k. slice_get v.nogoods k ≡ Some (chosen_nogood v)) (ap struck_number (sym q ∙ e)) l.nogood
+  | inr w ↦ absurd (let bad : phase.MustJump l.number ≡ phase.MustStrike n = sym w.0 ∙ e in cc)
+]
+
+-- after going back the search is below the last literal chosen
+pub settled_back : (r : Result (Option Finish) SearchFault) (v v1 v2 : Searching) (told told1 told2 : Option outside.Journal) (rest rest' : ℕ) → v1.program ≡ v.program → gone_back v1 ≡ gone_back v → ¬ (chosen v.stack ≡ [])
+    → ((held : Option (List ℕ)) (left : ℕ) → Carries v v1 told told1 held held (left, rest) (left, rest'))
+    → IfOk r (λ end. end ≡ None) → OnOk r (v2 ≡ gone_back v1) → OnOk r (Carried v1 v2 told1 told2 0) → IfOk r (Settled v v2 told told2 rest rest')
+settled_back (Ok end) v v1 v2 told told1 told2 rest rest' program same some carries none back carried = subst (Settled v v2 told told2 rest rest') (sym none) (
+  back ∙ same,
+  some,
+  λ held left g fits s. carried_same v1 v2 told1 told2 held left rest' carried g (fits_after g v v1 program fits) (carries held left g fits s),
+)
+settled_back (Err f) v v1 v2 told told1 told2 rest rest' program same some carries none back carried = tt
+
+-- after it was settled the search is ready again
+pub rounds_settled : (r : Result (Option Finish) SearchFault) (v v1 v2 v3 : Searching) (told told2 told3 : Option outside.Journal) (rest rest2 rest3 : ℕ) → v1.program ≡ v.program → v1.stack ≡ v.stack → v1.nogoods ≡ v.nogoods → v2 ≡ learned_by v1
+    → IsFirm v1 → IsKept v1 → ids v1 < 2 ^ 32 → ((held : Option (List ℕ)) (left : ℕ) → Carries v v2 told told2 held held (left, rest) (left, rest2))
+    → IfOk r (Settled v2 v3 told2 told3 rest2 rest3) → IfOk r (Rounds v v3 told told3 rest rest3)
+rounds_settled (Ok None) v v1 v2 v3 told told2 told3 rest rest2 rest3 program stack nogoods learned firm kept few carries p =
+    let same : v2.program ≡ v.program = ap (λ (z : Searching). z.program) learned ∙ program in (
+      again v v1 v2 v3 program stack nogoods learned p.0 (λ none. p.1 (ap (λ (z : Searching). chosen z.stack) learned ∙ none)) firm kept few,
+      λ held left g fits s. p.2 held left g (fits_after g v v2 same fits) (carries held left g fits s),
+    )
+rounds_settled (Ok (Some how)) v v1 v2 v3 told told2 told3 rest rest2 rest3 program stack nogoods learned firm kept few carries p =
+    let same : v2.program ≡ v.program = ap (λ (z : Searching). z.program) learned ∙ program in
+    λ held left g fits room s. p held left g (fits_after g v v2 same fits) room (carries held left g fits s)
+rounds_settled (Err f) v v1 v2 v3 told told2 told3 rest rest2 rest3 program stack nogoods learned firm kept few carries p = tt
+
+-- so it is after a set
+pub outcome_back : (r : Result (Option Finish) SearchFault) (v v2 v3 : Searching) (told told2 told3 : Option outside.Journal) (left : ℕ) → v2 ≡ learned_by v → IsFirm v → IsKept v → ids v < 2 ^ 32 → ¬ (chosen v.stack ≡ []) → ¬ (left ≡ 0)
+    → Carried v v2 told told2 0 → IfOk r (λ end. end ≡ None) → OnOk r (v3 ≡ gone_back v2) → OnOk r (Carried v2 v3 told2 told3 0)
+    → IfOk r (λ end. (held : Option (List ℕ)) (rest : ℕ) → Outcome v v3 told told3 held held (left, rest) (left, rest) end)
+outcome_back (Ok end) v v2 v3 told told2 told3 left learned firm kept few some room carried none back carried' =
+    subst (λ end. (held : Option (List ℕ)) (rest : ℕ) → Outcome v v3 told told3 held held (left, rest) (left, rest) end) (sym none) (λ held rest. (
+      again v v v2 v3 refl refl refl learned back some firm kept few,
+      omega (arith, room),
+      λ g fits s. carried_same v2 v3 told2 told3 held left rest carried' g (fits_after g v v2 (ap (λ (z : Searching). z.program) learned) fits) (carried_same v v2 told told2 held left rest carried g fits s),
+    ))
+outcome_back (Err f) v v2 v3 told told2 told3 left learned firm kept few some room carried none back carried' = tt
+
+-- ---- whether a literal is chosen
+
+pub none_chosen : (n : ℕ) (items ls : List Lit) → n ≡ length items → (n == 0) ≡ true → items ≡ ls → ls ≡ []
+none_chosen n [] ls len z e = sym e
+none_chosen n (x ∷ items) ls len z e =
+    let zero : n ≡ 0 = grind (arith, z) in
+    absurd (let bad : length (x ∷ items) ≡ 0 = sym len ∙ zero in cc)
+
+pub some_chosen : (n : ℕ) (items ls : List Lit) → n ≡ length items → (n == 0) ≡ false → items ≡ ls → ¬ (ls ≡ [])
+some_chosen n items ls len z e none =
+    let bad : true ≡ false = sym (ap (λ k. k == 0) (len ∙ ap length (e ∙ none))) ∙ z in
+    cc
+
+-- ---- after what is found
+
+-- a fault while nothing is written leaves what a search may leave
+pub leaves_fault : (v : Searching) (told told' : Option outside.Journal) (rest before now : ℕ) (sink : ℕ × ℕ) (fault : SearchFault) → IsRoundFault v told told' rest before now fault
+    → (g : standing.Given) → Fits g v → (held : Option (List ℕ)) (left : ℕ) → 0 < left → Stands g v told held left rest → Leaves g told' held sink (before, now) fault
+leaves_fault v told told' rest before now sink WriteFault f g fits held left room s = absurd f.cause
+leaves_fault v told told' rest before now sink TraceFault f g fits held left room s = (f.cause, inl (f.halts g fits held left room s))
+leaves_fault v told told' rest before now sink OutOfMemory f g fits held left room s = inl (f.halts g fits held left room s)
+
+module _ (v v1 : Searching) (told told1 : Option outside.Journal) (held held1 : Option (List ℕ)) (is : (let w : Searching = record v { phase = phase.Found } in v1 ≡ w))
+    (carries : (left rest : ℕ) → Carries v v1 told told1 held held1 (left + 1, rest) (left, rest)) where
+  -- one set less is left
+  shown_less : (left rest : ℕ) → 0 < left → (g : standing.Given) → Fits g v → Stands g v told held left rest → Stands g v1 told1 held1 (left - 1) rest
+  shown_less left rest room g fits s =
+      let same : left - 1 + 1 ≡ left = omega (arith, room) in
+      carries (left - 1) rest g fits (subst (λ z. Stands g v told held z rest) (sym same) s)
+
+  -- a set was shown, and the round went on
+  pub shown_outcome : (r : Result (Option Finish) SearchFault) (v' : Searching) (told' : Option outside.Journal) (left rest : ℕ) → 0 < left
+      → IfOk r (λ end. (held : Option (List ℕ)) (rest : ℕ) → Outcome v1 v' told1 told' held held (left - 1, rest) (left - 1, rest) end)
+      → IfOk r (Outcome v v' told told' held held1 (left, rest) (left - 1, rest))
+  shown_outcome (Ok None) v' told' left rest room p =
+      let w = p held1 rest in
+      let a : Again (record v { phase = phase.Found }) v' = subst (λ (z : Searching). Again z v') is w.0 in (
+        record { program = a.program; ready = a.ready; learned = a.learned; some = a.some; low = a.low },
+        w.1,
+        λ g fits s. w.2 g (fits_after g v v1 (ap (λ (z : Searching). z.program) is) fits) (shown_less left rest room g fits s),
+      )
+  shown_outcome (Ok (Some how)) v' told' left rest room p = λ g fits s. p held1 rest g (fits_after g v v1 (ap (λ (z : Searching). z.program) is) fits) (shown_less left rest room g fits s)
+  shown_outcome (Err f) v' told' left rest room p = tt
+
+  -- or there was a fault
+  pub shown_fault : (told' : Option outside.Journal) (left rest : ℕ) (before mid now : ℕ) (sink : ℕ × ℕ) (fault : SearchFault) → 0 < left → before ≤ mid → (0 < left - 1) × ((rest : ℕ) → IsRoundFault v1 told1 told' rest mid now fault)
+      → (g : standing.Given) → Fits g v → Stands g v told held left rest → Leaves g told' held1 sink (before, now) fault
+  shown_fault told' left rest before mid now sink fault room later f g fits s =
+      let h = f.1 rest in
+      leaves_fault v1 told1 told' rest before now sink fault (record { halts = h.halts; cause = cause_on before mid now fault later h.cause }) g (fits_after g v v1 (ap (λ (z : Searching). z.program) is) fits) held1 (left - 1) f.0 (shown_less left rest room g fits s)
+
+  -- the search has found a set
+  pub is_found : IsReady v → MoveIs v move.Full → IsFound v1
+  is_found ready next = subst (λ (z : Searching). IsFound z) (sym is) (record { kept = record { bodies = ready.bodies; placed = ready.placed }; firm = firm_full v next; phase_is = refl })

@@ -1,0 +1,106 @@
+-- A state without the sets found is as good as the state for all that a search does but showing sets.
+use Rattle.std.proofs.Common.{◌≡◌, ℕ, List, [], refl, inl, inr}
+use Rattle.search_theory.specs.Tables.{Made}
+use Rattle.search_theory.specs.States.{IsActive, IsSettled, IsStuck, IsFull, AreTrueUserAtoms}
+use Rattle.search_theory.specs.Events.{NameTerm, NameAtom, NameBody, Number, Make, Put, Choose, Close, Strike, Learn, Back, Show, Pass, Analysed, Justified, Decisions, Enumerated, happens, Allowed, NoneStuck}
+use Rattle.enumerator.specs.Journals.{Core, Step, Reached}
+use Rattle.enumerator.specs.Standing.{unlisted}
+
+-- the event shows no set
+abbrev pub ShowsNone : Step → Type 0
+ShowsNone (Show ids) = ⊥
+ShowsNone (NameTerm node) = Unit {0}
+ShowsNone (NameAtom a) = Unit {0}
+ShowsNone NameBody = Unit {0}
+ShowsNone (Number x a number) = Unit {0}
+ShowsNone (Make k) = Unit {0}
+ShowsNone (Put a v n) = Unit {0}
+ShowsNone (Choose b up) = Unit {0}
+ShowsNone (Close x) = Unit {0}
+ShowsNone (Strike n) = Unit {0}
+ShowsNone (Learn how ls) = Unit {0}
+ShowsNone (Back l) = Unit {0}
+ShowsNone (Pass ids) = Unit {0}
+
+module _ (core : Core) (s : Reached) where
+  -- an instance that is active is so
+  active_on : (k : Made ℕ) (b : ℕ) → IsActive (unlisted s) k b → IsActive s k b
+  active_on k b a = record { has_body = a.has_body; not_yet = a.not_yet; pos_true = a.pos_true; neg_not_up = a.neg_not_up }
+
+  -- and back
+  active_off : (k : Made ℕ) (b : ℕ) → IsActive s k b → IsActive (unlisted s) k b
+  active_off k b a = record { has_body = a.has_body; not_yet = a.not_yet; pos_true = a.pos_true; neg_not_up = a.neg_not_up }
+
+  -- a settled state is settled
+  pub settled_on : IsSettled core (unlisted s) → IsSettled core s
+  settled_on t = record {
+    none_struck = t.none_struck;
+    none_unit = t.none_unit;
+    none_active = λ k i b a. t.none_active k i b (active_off k b a);
+    none_due = t.none_due;
+    none_waiting = t.none_waiting;
+  }
+
+  -- and back
+  pub settled_off : IsSettled core s → IsSettled core (unlisted s)
+  settled_off t = record {
+    none_struck = t.none_struck;
+    none_unit = t.none_unit;
+    none_active = λ k i b a. t.none_active k i b (active_on k b a);
+    none_due = t.none_due;
+    none_waiting = t.none_waiting;
+  }
+
+  -- an atom that is stuck is so
+  pub stuck_on : (x : ℕ) → IsStuck core (unlisted s) x → IsStuck core s x
+  stuck_on x t = record { named = t.named; must_be = t.must_be; none_struck = t.none_struck; none_unit = t.none_unit; why = elim t.why [ inl k ↦ inl (settled_on k) | inr h ↦ inr h ] }
+
+  -- and back
+  stuck_off : (x : ℕ) → IsStuck core s x → IsStuck core (unlisted s) x
+  stuck_off x t = record { named = t.named; must_be = t.must_be; none_struck = t.none_struck; none_unit = t.none_unit; why = elim t.why [ inl k ↦ inl (settled_off k) | inr h ↦ inr h ] }
+
+  none_stuck_on : NoneStuck core (unlisted s) → NoneStuck core s
+  none_stuck_on h x t = h x (stuck_off x t)
+
+  -- a full state is full
+  pub full_on : IsFull core (unlisted s) → IsFull core s
+  full_on t = record { all_valued = t.all_valued; none_must_be = t.none_must_be; none_struck = t.none_struck; none_due = t.none_due; none_waiting = t.none_waiting }
+
+  -- the atoms of a set are so
+  pub atoms_on : (ids : List ℕ) → AreTrueUserAtoms core (unlisted s) ids → AreTrueUserAtoms core s ids
+  atoms_on ids t = record { all_there = t.all_there; each_true = t.each_true; atoms = t.atoms; names = t.names; ordered = t.ordered }
+
+  -- what may come may come, but for a set
+  pub allowed_on : (e : Step) → ShowsNone e → Allowed core [] (unlisted s) e → Allowed core [] s e
+  allowed_on (NameTerm node) w h = h
+  allowed_on (NameAtom a) w h = h
+  allowed_on NameBody w h = h
+  allowed_on (Number x a number) w h = h
+  allowed_on (Make k) w h = (h.0, h.1, h.2, h.3, h.4, h.5, none_stuck_on h.6)
+  allowed_on (Put a v n) w h = h
+  allowed_on (Choose b up) w h = (h.0, h.1, h.2, (h.3.0, h.3.1, active_on h.3.0 b h.3.2), h.4, none_stuck_on h.5)
+  allowed_on (Close x) w h = (h.0, h.1, h.2, h.3, h.4, h.5, (λ c. settled_on (h.6 c)))
+  allowed_on (Strike n) w h = h
+  allowed_on (Learn Decisions ls) w h = ((h.0.0, elim h.0.1 [ inl e ↦ inl e | inr k ↦ inr (k.0, (k.1.0, stuck_on k.1.0 k.1.1)) ]), h.1)
+  allowed_on (Learn Enumerated ls) w h = h
+  allowed_on (Learn Analysed ls) w h = absurd h.0
+  allowed_on (Learn Justified ls) w h = absurd h.0
+  allowed_on (Back l) w h = h
+  allowed_on (Show ids) w h = absurd w
+  allowed_on (Pass ids) w h = (h.0, full_on h.1, atoms_on ids h.2, h.3)
+
+  -- the state after an event, without the sets found
+  pub unlisted_next : (e : Step) → unlisted (happens core (unlisted s) e) ≡ unlisted (happens core s e)
+  unlisted_next (NameTerm node) = refl
+  unlisted_next (NameAtom a) = refl
+  unlisted_next NameBody = refl
+  unlisted_next (Number x a number) = refl
+  unlisted_next (Make k) = refl
+  unlisted_next (Put a v n) = refl
+  unlisted_next (Choose b up) = refl
+  unlisted_next (Close x) = refl
+  unlisted_next (Strike n) = refl
+  unlisted_next (Learn how ls) = refl
+  unlisted_next (Back l) = refl
+  unlisted_next (Show ids) = refl
+  unlisted_next (Pass ids) = refl

@@ -1,0 +1,32 @@
+use Rattle.std.proofs.Common.{subst}
+use Rattle.std.proofs.lemmas.Result.{err_from_is_err_and}
+use Rattle.enumerator.specs.Moves.{MoveIs}
+use Rattle.enumerator.proofs.Stepping.{err_on}
+use Rattle.enumerator.proofs.Ending.{leaves_fault, shown_outcome, shown_fault, is_found}
+use Rattle.enumerator.proofs.settle.settle.Goals as goal
+
+pub returns-in_err-show-in-Full-clause-err : goal.returns-in_err-show-in-Full-clause-err
+returns-in_err-show-in-Full-clause-err g c =
+    let p = err_from_is_err_and c.from_residual.result c.from_residual.ensures.1 in
+    rw (p.1, p.2) (λ g' fits s. c.in_err-show-in-Full.ensures.err g' fits c.args.left.now c.args.rest.now c.requires.room s)
+
+pub settle_shown-requires : goal.settle_shown-requires
+settle_shown-requires g c = record {
+  found = is_found c.args.search.now c.show.new.search _ _ _ _ c.in_ok-show-in-Full.ensures.shown c.in_ok-show-in-Full.ensures.carries c.requires.ready (subst (λ m. MoveIs c.args.search.now m) c.in-Full.is c.requires.next);
+}
+
+pub returns-in-Strike-clause-err : goal.returns-in-Strike-clause-err
+returns-in-Strike-clause-err g c = err_on c.settle_struck.result (λ f fault g' fits s. leaves_fault c.args.search.now _ _ _ _ _ _ f fault g' fits _ _ c.requires.room s) c.settle_struck.ensures.err
+
+pub returns-in-Stuck-clause-err : goal.returns-in-Stuck-clause-err
+returns-in-Stuck-clause-err g c = err_on c.settle_stuck.result (λ f fault g' fits s. leaves_fault c.args.search.now _ _ _ _ _ _ f fault g' fits _ _ c.requires.room s) c.settle_stuck.ensures.err
+
+pub returns-in_ok-show-in-Full-clause-ok : goal.returns-in_ok-show-in-Full-clause-ok
+returns-in_ok-show-in-Full-clause-ok g c = shown_outcome c.args.search.now c.show.new.search _ _ _ _ c.in_ok-show-in-Full.ensures.shown c.in_ok-show-in-Full.ensures.carries
+    c.settle_shown.result c.settle_shown.new.search _ c.args.left.now c.args.rest.now c.requires.room c.settle_shown.ensures.ok
+
+pub returns-in_ok-show-in-Full-clause-err : goal.returns-in_ok-show-in-Full-clause-err
+returns-in_ok-show-in-Full-clause-err g c = err_on c.settle_shown.result
+    (λ f fault g' fits s. shown_fault c.args.search.now c.show.new.search _ _ _ _ c.in_ok-show-in-Full.ensures.shown c.in_ok-show-in-Full.ensures.carries
+    _ c.args.left.now c.args.rest.now _ _ _ _ f c.requires.room c.in_ok-show-in-Full.ensures.later fault g' fits s)
+    c.settle_shown.ensures.err

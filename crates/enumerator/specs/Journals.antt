@@ -1,0 +1,67 @@
+-- The journal of a search: what a trace is told, and the lines of the sets that it shows.
+use Rattle.std.specs.Prelude.{◌≡◌, ℕ, ◌+◌, List, [], ◌∷◌, ◌++◌, Option, Some, None, slice_get}
+use Rattle.alpha_outside.specs.declared.event.Event as event
+use Rattle.alpha_outside.specs.Outside as outside
+use Rattle.asp_meaning.specs.Atoms.{Atom}
+use Rattle.asp_meaning.specs.Lines.{IsSetLine}
+use Rattle.search_theory.specs.Nogoods.{Nogood, IsStruck}
+use Rattle.search_theory.specs.Instances.{Rules}
+use Rattle.search_theory.specs.States.{State, Names}
+use Rattle.search_theory.specs.Events.{Event, NameTerm, NameAtom, NameBody, Number, Make, Put, Choose, Close, Strike, Learn, Back, Show, Pass}
+use Rattle.search_theory.specs.Journals.{SaysAll}
+
+-- the rules of a search over atoms without numbers, whose makers are numbers
+abbrev pub Core : Type 0
+Core = Rules (Unit {0}) Atom ℕ
+
+-- one event, a journal with the newest event first, and the state that it leads to
+abbrev pub Step : Type 0
+Step = Event Atom ℕ
+
+abbrev pub Reached : Type 0
+Reached = State (Unit {0}) Atom ℕ
+
+-- ---- what a trace is told
+
+-- these events were told in between, and nothing else has changed
+abbrev pub Adds : Option outside.Journal → Option outside.Journal → List event.Event → Type 0
+Adds None now events = now ≡ None
+Adds (Some before) now events = now ≡ Some (record before { events = before.events ++ events })
+
+-- the events told in between say this journal
+abbrev pub Tells : Core → Option outside.Journal → Option outside.Journal → List Step → Type 0
+Tells core told told' journal = (events : List event.Event) × Adds told told' events × SaysAll core events journal
+
+-- how many nogoods were noted as struck
+abbrev pub strikes : List Step → ℕ
+strikes [] = 0
+strikes (Strike n ∷ earlier) = strikes earlier + 1
+strikes (NameTerm node ∷ earlier) = strikes earlier
+strikes (NameAtom a ∷ earlier) = strikes earlier
+strikes (NameBody ∷ earlier) = strikes earlier
+strikes (Number x a number ∷ earlier) = strikes earlier
+strikes (Make k ∷ earlier) = strikes earlier
+strikes (Put a v n ∷ earlier) = strikes earlier
+strikes (Choose b up ∷ earlier) = strikes earlier
+strikes (Close x ∷ earlier) = strikes earlier
+strikes (Learn how ls ∷ earlier) = strikes earlier
+strikes (Back level ∷ earlier) = strikes earlier
+strikes (Show ids ∷ earlier) = strikes earlier
+strikes (Pass ids ∷ earlier) = strikes earlier
+
+-- some nogood is struck
+abbrev pub SomeStruck : Reached → Type 0
+SomeStruck s = (n : ℕ) × (ng : Nogood) × (slice_get s.nogoods n ≡ Some ng) × IsStruck s.stack ng
+
+-- ---- the lines of the sets shown
+
+-- the line of the atoms with these ids
+abbrev pub IsLineOfIds : Reached → List ℕ → List ℕ → Type 0
+IsLineOfIds s ids line = (atoms : List Atom) × Names s.names ids atoms × IsSetLine atoms line
+
+-- the lines of these sets, one by one
+abbrev pub AreLinesOf : Reached → List (List ℕ) → List (List ℕ) → Type 0
+AreLinesOf s [] [] = Unit {0}
+AreLinesOf s [] (line ∷ lines) = ⊥
+AreLinesOf s (ids ∷ sets) [] = ⊥
+AreLinesOf s (ids ∷ sets) (line ∷ lines) = IsLineOfIds s ids line × AreLinesOf s sets lines

@@ -1,0 +1,29 @@
+/// How far a search may go.
+#[derive(Clone, Copy, Debug, PartialEq, Eq)]
+pub struct Settings {
+    /// The most sets that are written; not 0.
+    pub limit: u64,
+    /// The most nogoods that are noted as struck.
+    pub conflicts: u64,
+    /// A budget of instances, which nothing reads: no more are made than the program has statements.
+    pub instances: u64,
+}
+
+/// How a search ended by itself. `printed` is how many sets were written.
+#[derive(Clone, Copy, Debug, PartialEq, Eq)]
+pub enum End {
+    /// Every answer set was written.
+    Finished { printed: u64 },
+    /// As many sets were written as the limit allows.
+    LimitReached { printed: u64 },
+    /// As many nogoods were noted as struck as the budget allows, and one more is struck.
+    Conflicts { printed: u64 },
+}
+
+/// Why a search stopped.
+#[derive(Clone, Copy, Debug, PartialEq, Eq)]
+pub enum SearchFault {
+    WriteFault,
+    TraceFault,
+    OutOfMemory,
+}

@@ -1,0 +1,88 @@
+//! What a search does next. A nogood that is struck or unit comes first; then an atom that stays must-be-true above a closed one;
+//! then an instance that is due; then a body that is active. Where there is none of these, the state is settled: a must-be-true atom
+//! stays so, or an unassigned atom is closed, or a set is found.
+
+ghost use Rattle.std.specs.Prelude.{◌≡◌, ◌⊎◌, true, false};
+ghost use Rattle.search_theory.specs.Values.{HasClosed};
+ghost use Rattle.enumerator.specs.Moves.{MoveIs, IsHalt, IsQuiet, IsIdle, NoneSince, SomeMustBe, NoneMustBe};
+
+use alpha_outside::{AtomId, NogoodId, Value};
+use ground_search::{Finding, Search};
+
+/// What comes next.
+#[derive(Clone, Copy, Debug, PartialEq, Eq)]
+pub enum Move {
+    /// The nogood is struck.
+    Strike(NogoodId),
+    /// The nogood is unit, and gives the atom the value.
+    Put(NogoodId, AtomId, Value),
+    /// The rule's instance is due.
+    Make(u32),
+    /// The body is active.
+    Choose(AtomId),
+    /// The atom is unassigned where the state is settled.
+    Close(AtomId),
+    /// A named atom stays must-be-true.
+    Stuck,
+    /// A set is found.
+    Full,
+}
+
+/// What comes next where nothing in particular has to.
+pub fn next_move(search: &Search) -> Move
+    ensures { MoveIs search.now result }
+{
+    match search.find() {
+        Finding::Struck(nogood) => Move::Strike(nogood),
+        Finding::Unit(nogood, atom, value) => Move::Put(nogood, atom, value),
+        Finding::Quiet => quiet_move(search),
+    }
+}
+
+// What comes next where nothing is struck or unit.
+fn quiet_move(search: &Search) -> Move
+    requires { IsQuiet search.now }
+    ensures { MoveIs search.now result }
+{
+    if is_stuck_since(search) {
+        return Move::Stuck;
+    }
+    if let Some(rule) = search.due() {
+        return Move::Make(rule);
+    }
+    if let Some(body) = search.active() {
+        return Move::Choose(body);
+    }
+    idle_move(search)
+}
+
+// Whether a named atom is must-be-true above a closed one.
+fn is_stuck_since(search: &Search) -> bool
+    ensures yes { result ≡ true → SomeMustBe search.now × HasClosed search.now.stack }
+    ensures no { result ≡ false → NoneSince search.now }
+{
+    search.must_be().is_some() && search.has_closed()
+}
+
+// What comes next where the state is settled.
+fn idle_move(search: &Search) -> Move
+    requires quiet { IsQuiet search.now }
+    requires idle { IsIdle search.now }
+    ensures { MoveIs search.now result }
+{
+    if search.must_be().is_some() {
+        return Move::Stuck;
+    }
+    if let Some(atom) = search.unassigned() {
+        return Move::Close(atom);
+    }
+    Move::Full
+}
+
+/// Whether the literals chosen are learned next.
+pub fn is_halt(found: &Move) -> bool
+    ensures yes { result ≡ true → IsHalt found.now }
+    ensures no { result ≡ false → ¬ IsHalt found.now }
+{
+    matches!(found, Move::Strike(_) | Move::Stuck | Move::Full)
+}

@@ -1,0 +1,261 @@
+//! What follows a conflict, a stuck atom or a set: the literals chosen are learned as a nogood, and the search goes back below the
+//! last of them. A set is written and noted before, and where no literal was chosen, the search is finished.
+
+ghost use Rattle.std.specs.Prelude.{◌≡◌, ◌≤◌, ◌<◌, ◌+◌, ◌^◌, ◌⊎◌, ℕ, List, Option, Some, None, [], true, false, OnOk, IfErr, IfOk, length, slice_get};
+ghost use Rattle.search_theory.specs.Values.{chosen};
+ghost use Rattle.search_theory.specs.States as phase;
+ghost use Rattle.ground_search.specs.Searching.{ids};
+ghost use Rattle.enumerator.specs.Standing.{IsReady, IsTraceFault, IsRoundFault, Carries, Fits, Given, Stands, Leaves};
+ghost use Rattle.enumerator.specs.Moves.{MoveIs, IsHalt};
+ghost use Rattle.enumerator.specs.Settling.{IsKept, MayStrikeNow, MayLearnNow, IsLearned, struck_by, learned_by, gone_back, Carried, Settled, Rounds, Outcome, IsFound};
+
+use crate::answers::SearchFault;
+use crate::moves::Move;
+use crate::steps::noted;
+use alpha_outside::{Event, How, List, NogoodId, Sink, SinkStop, Trace};
+use ground_search::{Search, Stage};
+use std::alloc::Global;
+
+/// How a search ends by itself.
+#[derive(Clone, Copy, Debug, PartialEq, Eq)]
+pub enum Finish {
+    /// No set is left.
+    Finished,
+    /// As many sets were shown as the limit allows.
+    LimitReached,
+    /// As many nogoods were struck as the budget allows, and one more is struck.
+    Conflicts,
+}
+
+// Notes the nogood as struck.
+fn strike<T: Trace>(search: &mut Search, trace: &mut T, nogood: NogoodId) -> Result<(), SearchFault>
+    requires there { nogood < length search.old.nogoods }
+    requires may { MayStrikeNow search.old nogood }
+    ensures later { T.faults trace.old ≤ T.faults trace.new }
+    ensures struck { OnOk result (search.new ≡ struck_by search.old nogood) }
+    ensures carries { OnOk result (Carried search.old search.new (T.journal trace.old) (T.journal trace.new) 1) }
+    ensures err { IfErr result (IsTraceFault search.old (T.journal trace.old) (T.journal trace.new) (T.faults trace.old) (T.faults trace.new)) }
+{
+    search.strike(nogood);
+    noted(trace, &Event::Struck { nogood })
+}
+
+// Learns the literals chosen.
+fn learn<T: Trace>(
+    search: &mut Search,
+    alloc: Global,
+    trace: &mut T,
+    how: How,
+) -> Result<(), SearchFault>
+    requires kept { IsKept search.old }
+    requires may { MayLearnNow search.old how }
+    ensures later { T.faults trace.old ≤ T.faults trace.new }
+    ensures learned { OnOk result (search.new ≡ learned_by search.old) }
+    ensures ids_fit { OnOk result (ids search.old < 2 ^ 32) }
+    ensures carries { OnOk result (Carried search.old search.new (T.journal trace.old) (T.journal trace.new) 0) }
+    ensures err { IfErr result (IsTraceFault search.old (T.journal trace.old) (T.journal trace.new) (T.faults trace.old) (T.faults trace.new)) }
+{
+    let Ok(chosen) = search.chosen(alloc) else {
+        return Err(SearchFault::OutOfMemory);
+    };
+    let Ok(nogood) = search.learn(chosen.as_slice()) else {
+        return Err(SearchFault::OutOfMemory);
+    };
+    let lits = List::from_vec(chosen);
+    let cover = List::new(alloc);
+    noted(
+        trace,
+        &Event::Learned {
+            nogood,
+            how,
+            lits,
+            cover,
+        },
+    )
+}
+
+// Goes back below the last literal chosen, from where the search goes on.
+fn back<T: Trace>(search: &mut Search, trace: &mut T) -> Result<Option<Finish>, SearchFault>
+    requires kept { IsKept search.old }
+    requires jump { (n : ℕ) × (search.old.phase ≡ phase.MustJump n) }
+    requires some { ¬ (chosen search.old.stack ≡ []) }
+    ensures later { T.faults trace.old ≤ T.faults trace.new }
+    ensures goes_on { IfOk result (λ end. end ≡ None) }
+    ensures back { OnOk result (search.new ≡ gone_back search.old) }
+    ensures carries { OnOk result (Carried search.old search.new (T.journal trace.old) (T.journal trace.new) 0) }
+    ensures err { IfErr result (IsTraceFault search.old (T.journal trace.old) (T.journal trace.new) (T.faults trace.old) (T.faults trace.new)) }
+{
+    let level = search.jump();
+    search.back(level);
+    match noted(trace, &Event::Back { level }) {
+        Ok(()) => Ok(None),
+        Err(fault) => Err(fault),
+    }
+}
+
+// Whether the search has ended.
+fn is_over(search: &Search) -> bool
+    ensures yes { result ≡ true → search.now.phase ≡ phase.Over }
+    ensures no { result ≡ false → ¬ (search.now.phase ≡ phase.Over) }
+{
+    matches!(search.stage(), Stage::Over)
+}
+
+// Writes the line of the set found, and notes the set.
+fn show<O: Sink, T: Trace>(
+    search: &mut Search,
+    alloc: Global,
+    out: &mut O,
+    trace: &mut T,
+) -> Result<(), SearchFault>
+    requires ready { IsReady search.old }
+    requires full { MoveIs search.old Move.Full }
+    ensures out_later { O.faults out.old ≤ O.faults out.new }
+    ensures later { T.faults trace.old ≤ T.faults trace.new }
+    ensures shown { OnOk result (search.new ≡ record search.old { phase = phase.Found }) }
+    ensures carries { OnOk result ((left rest : ℕ) → Carries search.old search.new (T.journal trace.old) (T.journal trace.new) (O.held out.old) (O.held out.new) (left + 1, rest) (left, rest)) }
+    ensures err { IfErr result (λ f. (g : Given) → Fits g search.old → (left rest : ℕ) → 0 < left → Stands g search.old (T.journal trace.old) (O.held out.old) left rest
+        → Leaves g (T.journal trace.new) (O.held out.new) (O.faults out.old, O.faults out.new) (T.faults trace.old, T.faults trace.new) f) }
+{
+    let Ok(ids) = search.true_atoms(alloc) else {
+        return Err(SearchFault::OutOfMemory);
+    };
+    let Ok(line) = search.set_line(alloc, ids.as_slice()) else {
+        return Err(SearchFault::OutOfMemory);
+    };
+    match out.write(line.as_slice()) {
+        Ok(()) => (),
+        Err(SinkStop::Failed) => return Err(SearchFault::WriteFault),
+        Err(SinkStop::OutOfMemory) => return Err(SearchFault::OutOfMemory),
+    }
+    search.show();
+    let atoms = List::from_vec(ids);
+    noted(trace, &Event::Shown { atoms })
+}
+
+// After the literals chosen were learned: their nogood is struck where it has to be, and the search goes back.
+fn go_back<T: Trace>(
+    search: &mut Search,
+    trace: &mut T,
+    rest: &mut u64,
+) -> Result<Option<Finish>, SearchFault>
+    requires kept { IsKept search.old }
+    requires learned { IsLearned search.old }
+    ensures later { T.faults trace.old ≤ T.faults trace.new }
+    ensures ok { IfOk result (Settled search.old search.new (T.journal trace.old) (T.journal trace.new) rest.old rest.new) }
+    ensures err { IfErr result (IsRoundFault search.old (T.journal trace.old) (T.journal trace.new) rest.old (T.faults trace.old) (T.faults trace.new)) }
+{
+    let Stage::MustStrike(nogood) = search.stage() else {
+        return back(search, trace);
+    };
+    if *rest == 0 {
+        return Ok(Some(Finish::Conflicts));
+    }
+    strike(search, trace, nogood)?;
+    *rest -= 1;
+    if is_over(search) {
+        return Ok(Some(Finish::Finished));
+    }
+    back(search, trace)
+}
+
+// After a nogood was found struck.
+fn settle_struck<T: Trace>(
+    search: &mut Search,
+    alloc: Global,
+    trace: &mut T,
+    nogood: NogoodId,
+    rest: &mut u64,
+) -> Result<Option<Finish>, SearchFault>
+    requires ready { IsReady search.old }
+    requires next { MoveIs search.old (Move.Strike nogood) }
+    ensures later { T.faults trace.old ≤ T.faults trace.new }
+    ensures ok { IfOk result (Rounds search.old search.new (T.journal trace.old) (T.journal trace.new) rest.old rest.new) }
+    ensures err { IfErr result (IsRoundFault search.old (T.journal trace.old) (T.journal trace.new) rest.old (T.faults trace.old) (T.faults trace.new)) }
+{
+    if *rest == 0 {
+        return Ok(Some(Finish::Conflicts));
+    }
+    strike(search, trace, nogood)?;
+    *rest -= 1;
+    if is_over(search) {
+        return Ok(Some(Finish::Finished));
+    }
+    learn(search, alloc, trace, How::Decisions)?;
+    go_back(search, trace, rest)
+}
+
+// After a named atom stayed must-be-true.
+fn settle_stuck<T: Trace>(
+    search: &mut Search,
+    alloc: Global,
+    trace: &mut T,
+    rest: &mut u64,
+) -> Result<Option<Finish>, SearchFault>
+    requires ready { IsReady search.old }
+    requires next { MoveIs search.old Move.Stuck }
+    ensures later { T.faults trace.old ≤ T.faults trace.new }
+    ensures ok { IfOk result (Rounds search.old search.new (T.journal trace.old) (T.journal trace.new) rest.old rest.new) }
+    ensures err { IfErr result (IsRoundFault search.old (T.journal trace.old) (T.journal trace.new) rest.old (T.faults trace.old) (T.faults trace.new)) }
+{
+    learn(search, alloc, trace, How::Decisions)?;
+    go_back(search, trace, rest)
+}
+
+// After a set was shown, where `left` more may be.
+fn settle_shown<T: Trace>(
+    search: &mut Search,
+    alloc: Global,
+    trace: &mut T,
+    left: u64,
+) -> Result<Option<Finish>, SearchFault>
+    requires found { IsFound search.old }
+    ensures later { T.faults trace.old ≤ T.faults trace.new }
+    ensures ok { IfOk result (λ end. (held : Option (List ℕ)) → (rest : ℕ) → Outcome search.old search.new (T.journal trace.old) (T.journal trace.new) held held (left, rest) (left, rest) end) }
+    ensures err { IfErr result (λ f. (0 < left) × ((rest : ℕ) → IsRoundFault search.old (T.journal trace.old) (T.journal trace.new) rest (T.faults trace.old) (T.faults trace.new) f)) }
+{
+    if left == 0 {
+        return Ok(Some(Finish::LimitReached));
+    }
+    let Ok(chosen) = search.chosen(alloc) else {
+        return Err(SearchFault::OutOfMemory);
+    };
+    if chosen.is_empty() {
+        return Ok(Some(Finish::Finished));
+    }
+    learn(search, alloc, trace, How::Enumerated)?;
+    back(search, trace)
+}
+
+/// Learns the literals chosen after what was found, and goes back below the last of them, or ends the search.
+pub fn settle<O: Sink, T: Trace>(
+    search: &mut Search,
+    alloc: Global,
+    found: Move,
+    out: &mut O,
+    trace: &mut T,
+    left: &mut u64,
+    rest: &mut u64,
+) -> Result<Option<Finish>, SearchFault>
+    requires ready { IsReady search.old }
+    requires next { MoveIs search.old found }
+    requires halt { IsHalt found }
+    requires room { 0 < left.old }
+    ensures out_later { O.faults out.old ≤ O.faults out.new }
+    ensures later { T.faults trace.old ≤ T.faults trace.new }
+    ensures fewer { left.new ≤ left.old }
+    ensures ok { IfOk result (Outcome search.old search.new (T.journal trace.old) (T.journal trace.new) (O.held out.old) (O.held out.new) (left.old, rest.old) (left.new, rest.new)) }
+    ensures err { IfErr result (λ f. (g : Given) → Fits g search.old → Stands g search.old (T.journal trace.old) (O.held out.old) left.old rest.old
+        → Leaves g (T.journal trace.new) (O.held out.new) (O.faults out.old, O.faults out.new) (T.faults trace.old, T.faults trace.new) f) }
+{
+    match found {
+        Move::Strike(nogood) => settle_struck(search, alloc, trace, nogood, rest),
+        Move::Stuck => settle_stuck(search, alloc, trace, rest),
+        Move::Full => {
+            show(search, alloc, out, trace)?;
+            *left -= 1;
+            settle_shown(search, alloc, trace, *left)
+        }
+        _ => unreachable!(),
+    }
+}

@@ -1,0 +1,2 @@
+winter.
+cold :- winter
