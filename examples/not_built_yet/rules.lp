@@ -1,3 +1,4 @@
 it_rains.
-take(umbrella) :- it_rains,
-    not indoors.
+take(umbrella) :- it_rains, not indoors.
+take(X) :- take(X),
+    it_rains.

@@ -6,13 +6,12 @@ use Rattle.alpha_outside.specs.Outside.{Rose, FileIs}
 use Rattle.asp_syntax.specs.declared.tree.Statement.{Statement}
 use Rattle.asp_meaning.specs.Output.{set_lines, IsAnswerSetLine, HaveAll}
 use Rattle.search_theory.specs.Journals.{IsLegal}
-use Rattle.plain_rules.specs.Rules.{plain_rules}
 use Rattle.enumerator.specs.Search.{SinkChange, TraceChange, Journaled}
 use Rattle.alpha.specs.declared.status.BudgetKind.TheVariants as budget
 use Rattle.alpha.specs.declared.status.Refusal.{Refusal}
 use Rattle.alpha.specs.declared.status.Status.{Status}
 use Rattle.alpha.specs.declared.status.Status.TheVariants as status
-use Rattle.alpha.specs.Journals.{AreShownLines, AreShownLinesAndOne, LinesAre, AreSpent}
+use Rattle.alpha.specs.Journals.{core_for, rules_for, AreShownLines, AreShownLinesAndOne, LinesAre, AreSpent, AreTooLarge}
 use Rattle.alpha.specs.TextAnswers.{IsProgramText, IsRefusedText}
 use Rattle.alpha.specs.Promises.{Told, Counts, most_bytes, joined_text, IsRead, IsAccepted, IsRefusedFile, IsOverlong, IsTooLongOf, IsAppended, IsNoted, IsEnded, Gives}
 use Rattle.alpha.specs.Outcomes.{IsStill, WroteAll, Searched, ended, cut_off, untraced, memory, cut_off_memory}
@@ -20,7 +19,7 @@ use Rattle.alpha.specs.Outcomes.{Treated, unread, refused, searched, Outcome, us
 use Rattle.alpha.proofs.Appended.{kept_is}
 use Rattle.alpha.proofs.TextLemmas.{one_program, one_refusal, not_refused}
 use Rattle.alpha.proofs.Shown.{Shows, all_lines, shows-all, shows-lines, shows-front, have_all}
-use Rattle.alpha.proofs.Noted.{nothing_journaled, shown_lines, spent}
+use Rattle.alpha.proofs.Noted.{nothing_journaled, shown_lines, spent, too_large}
 
 -- ---- the file that was read
 
@@ -120,6 +119,7 @@ module _ (told : Told) (shelf : Counts) (sink : SinkChange) (trace : TraceChange
   ended_is (status.Finished printed) w = tt
   ended_is (status.LimitReached printed) w = tt
   ended_is (status.BudgetSpent kind number printed) w = tt
+  ended_is (status.TermTooLarge line size printed) w = tt
   ended_is status.OutOfMemory w = tt
   ended_is status.Usage w = absurd w.ends
   ended_is (status.Refused r) w = absurd w.ends
@@ -179,7 +179,7 @@ module _ (told : Told) (shelf : Counts) (sink : SinkChange) (trace : TraceChange
 
   -- ---- events
 
-  searched_journal : (s : Status) → Searched P sink trace s → (lines : List (List ℕ)) × Journaled P trace lines
+  searched_journal : (s : Status) → Searched P sink trace s → (lines : List (List ℕ)) × Journaled (core_for P) trace lines
   searched_journal s (ended w) = (w.lines, w.journaled)
   searched_journal s (cut_off rose w) = (w.lines, w.journaled)
   searched_journal s (untraced rose (inl w)) = (w.lines, w.journaled)
@@ -188,13 +188,13 @@ module _ (told : Told) (shelf : Counts) (sink : SinkChange) (trace : TraceChange
   searched_journal s (memory (inr w)) = (w.lines, w.journaled)
   searched_journal s (cut_off_memory rose w) = (w.lines, w.journaled)
 
-  came_journal : (s : Status) → Came P shelf sink trace s → (lines : List (List ℕ)) × Journaled P trace lines
+  came_journal : (s : Status) → Came P shelf sink trace s → (lines : List (List ℕ)) × Journaled (core_for P) trace lines
   came_journal s (stopped kept) = ([], nothing_journaled P trace kept.events)
   came_journal s (not_read rose kept) = ([], nothing_journaled P trace kept.events)
   came_journal s (done w) = searched_journal s w
 
   module _ (E : List Event) (noted : IsNoted trace.told trace.told' E) where
-    came_legal : (s : Status) → Came P shelf sink trace s → IsLegal (plain_rules P) [] E
+    came_legal : (s : Status) → Came P shelf sink trace s → IsLegal (rules_for P) [] E
     came_legal s c =
         let j = came_journal s c in
         let lines = shown_lines P trace E noted j.0 j.1 in
@@ -213,6 +213,20 @@ module _ (told : Told) (shelf : Counts) (sink : SinkChange) (trace : TraceChange
     came_spent number printed s e (stopped kept) = absurd (cc)
     came_spent number printed s e (not_read rose kept) = absurd (cc)
     came_spent number printed s e (done w) = searched_spent number printed s e w
+
+    searched_too_large : (line size printed : ℕ) (s : Status) → s ≡ status.TermTooLarge line size printed → Searched P sink trace s → AreTooLarge P E line size
+    searched_too_large line size printed s e (ended w) =
+        let at = subst (WroteAll P sink trace) e w in
+        too_large P trace E noted line size (record { journal = at.journaled.journal; legal = at.journaled.legal; tells = at.journaled.tells; too_large = at.ends.2 })
+    searched_too_large line size printed s e (cut_off rose w) = absurd (cc)
+    searched_too_large line size printed s e (untraced rose w) = absurd (cc)
+    searched_too_large line size printed s e (memory w) = absurd (cc)
+    searched_too_large line size printed s e (cut_off_memory rose w) = absurd (cc)
+
+    came_too_large : (line size printed : ℕ) (s : Status) → s ≡ status.TermTooLarge line size printed → Came P shelf sink trace s → AreTooLarge P E line size
+    came_too_large line size printed s e (stopped kept) = absurd (cc)
+    came_too_large line size printed s e (not_read rose kept) = absurd (cc)
+    came_too_large line size printed s e (done w) = searched_too_large line size printed s e w
 
     module _ (b : List ℕ) (is : IsAppended sink.held sink.held' b) where
       -- all lines, or all but one, as the events say
@@ -234,6 +248,7 @@ module _ (told : Told) (shelf : Counts) (sink : SinkChange) (trace : TraceChange
       lines_of (status.Finished printed) h = h
       lines_of (status.LimitReached printed) h = h
       lines_of (status.BudgetSpent kind number printed) h = h
+      lines_of (status.TermTooLarge line size printed) h = h
       lines_of status.Usage h = h
       lines_of (status.Refused r) h = h
       lines_of (status.TextTooLong name) h = h
@@ -274,11 +289,14 @@ module _ (told : Told) (shelf : Counts) (sink : SinkChange) (trace : TraceChange
     finished_is_complete printed e = came_all told shelf sink trace P b is printed s e (came told shelf sink trace P asks s a o)
 
   module _ (E : List Event) (noted : IsNoted trace.told trace.told' E) where
-    pub journal_is_legal : IsLegal (plain_rules P) [] E
+    pub journal_is_legal : IsLegal (rules_for P) [] E
     journal_is_legal = came_legal told shelf sink trace P E noted s (came told shelf sink trace P asks s a o)
 
     pub budget_is_spent : (number printed : ℕ) → s ≡ status.BudgetSpent budget.Conflicts number printed → AreSpent P E number
     budget_is_spent number printed e = came_spent told shelf sink trace P E noted number printed s e (came told shelf sink trace P asks s a o)
+
+    pub term_too_large : (line size printed : ℕ) → s ≡ status.TermTooLarge line size printed → AreTooLarge P E line size
+    term_too_large line size printed e = came_too_large told shelf sink trace P E noted line size printed s e (came told shelf sink trace P asks s a o)
 
     pub lines_are_shown_events : (b : List ℕ) → IsAppended sink.held sink.held' b → LinesAre P s E (set_lines b)
     lines_are_shown_events b is = came_lines told shelf sink trace P E noted b is s (came told shelf sink trace P asks s a o)

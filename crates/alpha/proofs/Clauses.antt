@@ -7,6 +7,7 @@ use Rattle.enumerator.specs.Search.{SinkChange, TraceChange, Journaled}
 use Rattle.alpha.specs.declared.status.BudgetKind.TheVariants as budget
 use Rattle.alpha.specs.declared.status.Status.{Status}
 use Rattle.alpha.specs.declared.status.Status.TheVariants as status
+use Rattle.alpha.specs.Journals.{core_for}
 use Rattle.alpha.specs.Texts.{has_message}
 use Rattle.alpha.specs.TextAnswers.{IsProgramText, IsRefusedText}
 use Rattle.alpha.specs.Promises.{Told, Counts, most_bytes, most_sets, joined_text, IsTextOf, IsProgramOf, IsTooLongOf, IsAppended, OnlyAppends, OutputIs, OnlyNotes, IsUnsearched, IsRefusedWords, IsCaused}
@@ -27,6 +28,7 @@ module _ (P : List Statement) (sink : SinkChange) (trace : TraceChange) where
   ended_quiet (status.Finished printed) w = refl
   ended_quiet (status.LimitReached printed) w = refl
   ended_quiet (status.BudgetSpent kind number printed) w = refl
+  ended_quiet (status.TermTooLarge line size printed) w = refl
   ended_quiet status.Usage w = absurd w.ends
   ended_quiet (status.Refused r) w = absurd w.ends
   ended_quiet (status.TextTooLong name) w = absurd w.ends
@@ -43,6 +45,8 @@ module _ (P : List Statement) (sink : SinkChange) (trace : TraceChange) where
   ended_caused told shelf name of (status.BudgetSpent budget.Conflicts number printed) w =
       (subst (λ n. n < most_sets) (sym w.ends.0) w.ends.1, w.ends.2, (name, refl, (P, of, record { journal = w.journaled.journal; legal = w.journaled.legal; tells = w.journaled.tells; struck = w.ends.3; one_more = w.ends.4 })))
   ended_caused told shelf name of (status.BudgetSpent budget.Instances number printed) w = absurd w.ends
+  ended_caused told shelf name of (status.TermTooLarge line size printed) w =
+      (subst (λ n. n < most_sets) (sym w.ends.0) w.ends.1, (name, refl, (P, of, record { journal = w.journaled.journal; legal = w.journaled.legal; tells = w.journaled.tells; too_large = w.ends.2 })))
   ended_caused told shelf name of status.Usage w = absurd w.ends
   ended_caused told shelf name of (status.Refused r) w = absurd w.ends
   ended_caused told shelf name of (status.TextTooLong long) w = absurd w.ends
@@ -71,7 +75,7 @@ module _ (P : List Statement) (sink : SinkChange) (trace : TraceChange) where
   searched_appends s (memory (inr w)) = only_appends sink.held sink.held' _ w.bytes
   searched_appends s (cut_off_memory rose w) = only_appends sink.held sink.held' _ w.bytes
 
-  journal_notes : (lines : List (List ℕ)) → Journaled P trace lines → OnlyNotes trace.told trace.told'
+  journal_notes : (lines : List (List ℕ)) → Journaled (core_for P) trace lines → OnlyNotes trace.told trace.told'
   journal_notes lines j = only_notes trace.told trace.told' j.tells.0 j.tells.1
 
   searched_notes : (s : Status) → Searched P sink trace s → OnlyNotes trace.told trace.told'
@@ -108,6 +112,7 @@ module _ (P : List Statement) (sink : SinkChange) (trace : TraceChange) where
   unsearched_speaks (status.Finished printed) is = absurd is
   unsearched_speaks (status.LimitReached printed) is = absurd is
   unsearched_speaks (status.BudgetSpent kind number printed) is = absurd is
+  unsearched_speaks (status.TermTooLarge line size printed) is = absurd is
   unsearched_speaks status.WriteFault is = absurd is
   unsearched_speaks status.TraceFault is = absurd is
   unsearched_speaks status.OutOfMemory is = absurd is

@@ -9,7 +9,7 @@ use Rattle.alpha.specs.declared.status.BudgetKind.{BudgetKind}
 use Rattle.alpha.specs.declared.status.BudgetKind.TheVariants as budget
 use Rattle.alpha.specs.declared.status.Status.{Status}
 use Rattle.alpha.specs.declared.status.Status.TheVariants as status
-use Rattle.alpha.specs.Texts.{printed_text, finished_line, limit_line, budget_line, last_line_of}
+use Rattle.alpha.specs.Texts.{printed_text, finished_line, limit_line, budget_line, too_large_line, last_line_of}
 use Rattle.alpha.specs.Promises.{HasPrinted, IsLastLine}
 
 glyph_is_no_feed : (d : ℕ) → ¬ (10 ≡ digit_glyph false d)
@@ -123,11 +123,23 @@ budget_is_other budget.Instances number printed = record {
   no_feed = no_feed-append (codes "% budget instances ") (number_inner number printed) (no_feed (codes "% budget instances ") refl) (number_no_feed number printed);
 }
 
+-- of one that met a term that is too large
+too_large_is_other : (line printed : ℕ) → IsOtherLine (too_large_line line printed)
+unfolding has_feed
+too_large_is_other line printed = record {
+  first = 37;
+  inner = codes " term too large line " ++ number_inner line printed;
+  is = ap (λ xs. codes "% term too large line " ++ xs) (number_is line printed);
+  other = refl;
+  no_feed = no_feed-append (codes "% term too large line ") (number_inner line printed) (no_feed (codes "% term too large line ") refl) (number_no_feed line printed);
+}
+
 -- each last line has one line feed, at its end, and does not begin with `{`
 status_is_other : (n : ℕ) (s : Status) → HasPrinted n s → IsOtherLine (last_line_of s)
 status_is_other n (status.Finished printed) has = finished_is_other printed
 status_is_other n (status.LimitReached printed) has = limit_is_other printed
 status_is_other n (status.BudgetSpent kind number printed) has = budget_is_other kind number printed
+status_is_other n (status.TermTooLarge line size printed) has = too_large_is_other line printed
 status_is_other n status.Usage has = absurd has
 status_is_other n (status.Refused r) has = absurd has
 status_is_other n (status.TextTooLong name) has = absurd has

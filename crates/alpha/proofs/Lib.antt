@@ -1,4 +1,6 @@
+pub mod BuiltTerms
 pub mod BuiltLemmas
+pub mod CoreLemmas
 pub mod TextLemmas
 pub mod Appended
 pub mod LastLine

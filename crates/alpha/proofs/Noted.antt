@@ -8,10 +8,13 @@ use Rattle.asp_syntax.specs.declared.tree.Statement.{Statement}
 use Rattle.search_theory.specs.States.{State}
 use Rattle.search_theory.specs.Journals.{Says, SaysAll, replay}
 use Rattle.search_theory.specs.Events.{happens}
-use Rattle.plain_rules.specs.Rules.{plain_rules}
+use Rattle.search_theory.specs.Instances.{Rules}
+use Rattle.core_meaning.specs.Atoms.{GroundAtom}
+use Rattle.search_rules.specs.Tests.{Maker}
+use Rattle.search_rules.specs.Rules.{Numbers, Reached}
 use Rattle.enumerator.specs.Search.{TraceChange, Journaled}
-use Rattle.enumerator.specs.Journals.{Core, Step, Reached, Tells, strikes, AreLinesOf}
-use Rattle.alpha.specs.Journals.{shown_sets, struck_events, AreShownLines, HasSpent, AreSpent}
+use Rattle.enumerator.specs.Journals.{Step, Tells, strikes, AreLinesOf}
+use Rattle.alpha.specs.Journals.{core_for, rules_for, shown_sets, struck_events, AreShownLines, HasSpent, AreSpent, HasTooLarge, AreTooLarge}
 use Rattle.alpha.specs.Promises.{IsNoted}
 use Rattle.alpha.proofs.Appended.{noted_is, adds_nothing}
 
@@ -90,7 +93,7 @@ struck_events-push (e ∷ events) last =
 
 -- ---- what one event says
 
-module _ (core : Core) where
+module _ (rules : Rules Numbers GroundAtom Maker) where
   -- the sets shown, in order
   in_order : Reached → List (List ℕ)
   in_order s = reverse (State.shown s)
@@ -98,7 +101,7 @@ module _ (core : Core) where
   shown_next : (s : Reached) (ids : List ℕ) → reverse (ids ∷ State.shown s) ≡ reverse (State.shown s) ++ ids ∷ []
   shown_next s ids = reverse-append (ids ∷ []) (State.shown s)
 
-  says_shown : (s : Reached) (last : outside.Event) (e : Step) → Says core s last e → reverse (State.shown (happens core s e)) ≡ reverse (State.shown s) ++ shown_by last
+  says_shown : (s : Reached) (last : outside.Event) (e : Step) → Says rules s last e → reverse (State.shown (happens rules s e)) ≡ reverse (State.shown s) ++ shown_by last
   unfolding shown_by
   says_shown s (say.Term id node) e is = rw is.1 (sym (no_sets (reverse (State.shown s))))
   says_shown s (say.Atom id pred args) e is = rw is.2.2 (sym (no_sets (reverse (State.shown s))))
@@ -116,7 +119,7 @@ module _ (core : Core) where
   says_shown s (say.Shown ids) e is = rw is (shown_next s ids)
   says_shown s (say.Passed ids) e is = rw is (sym (no_sets (reverse (State.shown s))))
 
-  says_struck : (s : Reached) (last : outside.Event) (e : Step) (earlier : List Step) → Says core s last e → strikes (e ∷ earlier) ≡ strikes earlier + struck_by last
+  says_struck : (s : Reached) (last : outside.Event) (e : Step) (earlier : List Step) → Says rules s last e → strikes (e ∷ earlier) ≡ strikes earlier + struck_by last
   unfolding struck_by
   says_struck s (say.Term id node) e earlier is = rw is.1 (omega arith)
   says_struck s (say.Atom id pred args) e earlier is = rw is.2.2 (omega arith)
@@ -137,25 +140,25 @@ module _ (core : Core) where
   -- ---- a whole journal
 
   -- the sets of the `Shown` events are those that the replay has as shown
-  shown_is : (E : List outside.Event) (journal : List Step) → SaysAll core E journal → shown_sets E ≡ reverse (State.shown (replay core journal))
+  shown_is : (E : List outside.Event) (journal : List Step) → SaysAll rules E journal → shown_sets E ≡ reverse (State.shown (replay rules journal))
   shown_is E [] says = ap shown_sets says
   shown_is E (e ∷ earlier) says =
       ap shown_sets says.2
       ∙ (shown_sets-push says.0 says.1
-      ∙ (ap (λ xs. xs ++ shown_by says.1) (shown_is says.0 earlier says.3) ∙ sym (says_shown (replay core earlier) says.1 e says.4)))
+      ∙ (ap (λ xs. xs ++ shown_by says.1) (shown_is says.0 earlier says.3) ∙ sym (says_shown (replay rules earlier) says.1 e says.4)))
 
-  struck_is : (E : List outside.Event) (journal : List Step) → SaysAll core E journal → struck_events E ≡ strikes journal
+  struck_is : (E : List outside.Event) (journal : List Step) → SaysAll rules E journal → struck_events E ≡ strikes journal
   struck_is E [] says = ap struck_events says
   struck_is E (e ∷ earlier) says =
       ap struck_events says.2
       ∙ (struck_events-push says.0 says.1
-      ∙ (ap (λ n. n + struck_by says.1) (struck_is says.0 earlier says.3) ∙ sym (says_struck (replay core earlier) says.1 e earlier says.4)))
+      ∙ (ap (λ n. n + struck_by says.1) (struck_is says.0 earlier says.3) ∙ sym (says_struck (replay rules earlier) says.1 e earlier says.4)))
 
 -- ---- of a run
 
 module _ (P : List Statement) (trace : TraceChange) where
   -- where nothing was noted
-  pub nothing_journaled : trace.told' ≡ trace.told → Journaled P trace []
+  pub nothing_journaled : trace.told' ≡ trace.told → Journaled (core_for P) trace []
   nothing_journaled kept = record {
     journal = [];
     legal = tt;
@@ -165,17 +168,17 @@ module _ (P : List Statement) (trace : TraceChange) where
 
   module _ (E : List outside.Event) (is : IsNoted trace.told trace.told' E) where
     -- the events say the journal that was told
-    said : (journal : List Step) → Tells (plain_rules P) trace.told trace.told' journal → SaysAll (plain_rules P) E journal
-    said journal tells = subst (λ events. SaysAll (plain_rules P) events journal) (noted_is trace.told trace.told' E tells.0 is tells.1) tells.2
+    said : (journal : List Step) → Tells (core_for P) trace.told trace.told' journal → SaysAll (rules_for P) E journal
+    said journal tells = subst (λ events. SaysAll (rules_for P) events journal) (noted_is trace.told trace.told' E tells.0 is tells.1) tells.2
 
-    pub shown_lines : (lines : List (List ℕ)) → Journaled P trace lines → AreShownLines P E lines
+    pub shown_lines : (lines : List (List ℕ)) → Journaled (core_for P) trace lines → AreShownLines P E lines
     shown_lines lines j =
         let says = said j.journal j.tells in
         record {
           journal = j.journal;
           legal = j.legal;
           says = says;
-          lines_are = subst (λ sets. AreLinesOf (replay (plain_rules P) j.journal) sets lines) (sym (shown_is (plain_rules P) E j.journal says)) j.shown;
+          lines_are = subst (λ sets. AreLinesOf (replay (rules_for P) j.journal) sets lines) (sym (shown_is (rules_for P) E j.journal says)) j.shown;
         }
 
     pub spent : (number : ℕ) → HasSpent P trace number → AreSpent P E number
@@ -185,6 +188,14 @@ module _ (P : List Statement) (trace : TraceChange) where
           journal = h.journal;
           legal = h.legal;
           says = says;
-          count = struck_is (plain_rules P) E h.journal says ∙ h.struck;
+          count = struck_is (rules_for P) E h.journal says ∙ h.struck;
           one_more = h.one_more;
         }
+
+    pub too_large : (line size : ℕ) → HasTooLarge P trace line size → AreTooLarge P E line size
+    too_large line size h = record {
+      journal = h.journal;
+      legal = h.legal;
+      says = said h.journal h.tells;
+      too_large = h.too_large;
+    }

@@ -7,13 +7,14 @@ use Rattle.asp_meaning.specs.Output.{set_lines, IsAnswerSetLine, IsBraceLine, Ar
 use Rattle.asp_meaning.proofs.LineLemmas.{IsOtherLine, set_lines-concat, set_lines-take, set_lines-other}
 use Rattle.lists.proofs.ListLemmas.{Each-append, ∈-append_cases}
 use Rattle.lists.specs.Lists.{◌∈◌}
-use Rattle.enumerator.specs.Search.{SinkChange, TraceChange, Journaled, Wrote, WroteOneMore}
+use Rattle.enumerator.specs.Search.{SinkChange, TraceChange, Journaled}
 use Rattle.alpha.specs.declared.status.BudgetKind.TheVariants as budget
 use Rattle.alpha.specs.declared.status.Status.{Status}
 use Rattle.alpha.specs.declared.status.Status.TheVariants as status
 use Rattle.alpha.specs.Texts.{last_line_of}
 use Rattle.alpha.specs.Promises.{IsAppended, IsLineOfSet, IsSetLines, IsWholeOutput, IsCutOutput, HasPrinted, IsLastLine, OutputIs}
-use Rattle.alpha.specs.Outcomes.{WroteAll, IsNext, WroteFront}
+use Rattle.alpha.specs.Journals.{core_for}
+use Rattle.alpha.specs.Outcomes.{WroteAll, Wrote, WroteOneMore, IsNext, WroteFront}
 use Rattle.alpha.proofs.Appended.{appended_is}
 use Rattle.alpha.proofs.LastLine.{last_line_is_other}
 
@@ -50,6 +51,7 @@ printed_all P sink trace (status.Finished printed) w = w.ends.0
 printed_all P sink trace (status.LimitReached printed) w = w.ends.0
 printed_all P sink trace (status.BudgetSpent budget.Conflicts number printed) w = w.ends.0
 printed_all P sink trace (status.BudgetSpent budget.Instances number printed) w = absurd w.ends
+printed_all P sink trace (status.TermTooLarge line size printed) w = w.ends.0
 printed_all P sink trace status.Usage w = absurd w.ends
 printed_all P sink trace (status.Refused r) w = absurd w.ends
 printed_all P sink trace (status.TextTooLong name) w = absurd w.ends
@@ -71,7 +73,7 @@ pub record Shows (P : List Statement) (trace : TraceChange) (b : List ℕ) : Typ
   pub few : (more ≡ []) ⊎ ((line : List ℕ) × (more ≡ line ∷ []))
   pub are : set_lines b ≡ noted ++ more
   pub sets : AreAnswerSetLines P (noted ++ more)
-  pub journaled : Journaled P trace noted
+  pub journaled : Journaled (core_for P) trace noted
 
 module _ (P : List Statement) (sink : SinkChange) (trace : TraceChange) (b : List ℕ) (is : IsAppended sink.held sink.held' b) where
   -- the set lines are just those of the journal
@@ -80,7 +82,7 @@ module _ (P : List Statement) (sink : SinkChange) (trace : TraceChange) (b : Lis
       ap set_lines (appended_is sink.held sink.held' b (concat w.lines ++ last_line_of s) is w.bytes)
       ∙ before_whole_other w.lines (last_line_of s) w.sets.whole (last_is_other P sink trace s w)
 
-  nothing_more : (lines : List (List ℕ)) → set_lines b ≡ lines → AreAnswerSetLines P lines → Journaled P trace lines → Shows P trace b
+  nothing_more : (lines : List (List ℕ)) → set_lines b ≡ lines → AreAnswerSetLines P lines → Journaled (core_for P) trace lines → Shows P trace b
   nothing_more lines are sets journaled = record {
     noted = lines;
     more = [];
@@ -90,7 +92,7 @@ module _ (P : List Statement) (sink : SinkChange) (trace : TraceChange) (b : Lis
     journaled = journaled;
   }
 
-  one_more : (lines : List (List ℕ)) (next : List ℕ) → set_lines b ≡ lines ++ next ∷ [] → AreAnswerSetLines P (lines ++ next ∷ []) → Journaled P trace lines → Shows P trace b
+  one_more : (lines : List (List ℕ)) (next : List ℕ) → set_lines b ≡ lines ++ next ∷ [] → AreAnswerSetLines P (lines ++ next ∷ []) → Journaled (core_for P) trace lines → Shows P trace b
   one_more lines next are sets journaled = record {
     noted = lines;
     more = next ∷ [];
@@ -118,7 +120,7 @@ module _ (P : List Statement) (sink : SinkChange) (trace : TraceChange) (b : Lis
     whole = Each-append IsBraceLine lines (next ∷ []) sets.whole (whole, tt);
   }
 
-  shows-next : (lines : List (List ℕ)) (next : List ℕ) (cut : ℕ) → b ≡ concat lines ++ take cut next → AreAnswerSetLines P lines → Journaled P trace lines → IsNext P lines next → Shows P trace b
+  shows-next : (lines : List (List ℕ)) (next : List ℕ) (cut : ℕ) → b ≡ concat lines ++ take cut next → AreAnswerSetLines P lines → Journaled (core_for P) trace lines → IsNext P lines next → Shows P trace b
   shows-next lines next cut e sets journaled (inr last) =
       nothing_more lines (ap set_lines e ∙ before_other lines next cut sets.whole (last_line_is_other (length lines) next last)) sets journaled
   shows-next lines next cut e sets journaled (inl set) = elim (set_lines-take cut next set.1) [
@@ -154,6 +156,7 @@ module _ (P : List Statement) (sink : SinkChange) (trace : TraceChange) (b : Lis
   ended_output (status.LimitReached printed) w = whole_output (status.LimitReached printed) printed w w.ends.0
   ended_output (status.BudgetSpent budget.Conflicts number printed) w = whole_output (status.BudgetSpent budget.Conflicts number printed) printed w w.ends.0
   ended_output (status.BudgetSpent budget.Instances number printed) w = absurd w.ends
+  ended_output (status.TermTooLarge line size printed) w = whole_output (status.TermTooLarge line size printed) printed w w.ends.0
   ended_output status.Usage w = absurd w.ends
   ended_output (status.Refused r) w = absurd w.ends
   ended_output (status.TextTooLong name) w = absurd w.ends

@@ -26,6 +26,7 @@ stopped text sink trace status.WriteFault is kept = absurd is
 stopped text sink trace status.TraceFault is kept = absurd is
 stopped text sink trace (status.LimitReached printed) is kept = absurd is
 stopped text sink trace (status.BudgetSpent kind number printed) is kept = absurd is
+stopped text sink trace (status.TermTooLarge line size printed) is kept = absurd is
 
 module _ (told : Told) (shelf : Counts) (sink : SinkChange) (trace : TraceChange) where
   -- a file that can't be read
@@ -40,6 +41,7 @@ module _ (told : Told) (shelf : Counts) (sink : SinkChange) (trace : TraceChange
   not_read name status.TraceFault is rose kept = absurd is
   not_read name (status.LimitReached printed) is rose kept = absurd is
   not_read name (status.BudgetSpent kind number printed) is rose kept = absurd is
+  not_read name (status.TermTooLarge line size printed) is rose kept = absurd is
 
   -- a file that is too long
   pub overlong : (name : List ℕ) (s : Status) → IsTextTooLongOf name s → RoseBy (most_bytes + 1) shelf.taken shelf.taken' → IsTooLongOf told name → IsStill sink trace → Outcome told shelf sink trace (Some name) s
@@ -53,3 +55,4 @@ module _ (told : Told) (shelf : Counts) (sink : SinkChange) (trace : TraceChange
   overlong name status.TraceFault is rose long_file kept = absurd is
   overlong name (status.LimitReached printed) is rose long_file kept = absurd is
   overlong name (status.BudgetSpent kind number printed) is rose long_file kept = absurd is
+  overlong name (status.TermTooLarge line size printed) is rose long_file kept = absurd is

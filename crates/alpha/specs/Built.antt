@@ -2,6 +2,9 @@
 use Rattle.std.specs.Prelude.{ℕ, Bool, true, false, not, ◌&&◌, if◌then◌else◌, List, [], ◌∷◌, Option, Some, None}
 use Rattle.std.specs.List.{list_all}
 use Rattle.asp_syntax.specs.declared.tree.Term.{Term}
+use Rattle.asp_syntax.specs.declared.tree.Term.TheOpen.{Term-F}
+use Rattle.asp_syntax.specs.declared.tree.Term.TheOpen as term
+use Rattle.asp_syntax.specs.declared.tree.Term.TheFolds.{fold-Term}
 use Rattle.asp_syntax.specs.declared.tree.Atom.{Atom}
 use Rattle.asp_syntax.specs.declared.tree.Literal.TheVariants as literal
 use Rattle.asp_syntax.specs.declared.tree.Item.{Item}
@@ -10,14 +13,24 @@ use Rattle.asp_syntax.specs.declared.tree.Head.{Head}
 use Rattle.asp_syntax.specs.declared.tree.Head.TheVariants as head
 use Rattle.asp_syntax.specs.declared.tree.Statement.{Statement}
 
--- no terms
-abbrev pub no_terms : List Term → Bool
-no_terms [] = true
-no_terms (x ∷ xs) = false
+-- whether a term is built, from whether the terms in it are
+abbrev pub built_step : Term-F Bool → Bool
+built_step (term.Int n) = true
+built_step (term.Variable x) = false
+built_step (term.Anonymous k) = false
+built_step (term.Symbol x) = true
+built_step (term.Text x) = true
+built_step (term.Fun f args) = list_all (λ each. each) args
+built_step (term.Minus t) = false
+built_step (term.Arith op l r) = false
 
--- an atom without strong negation and without arguments
+-- an integer, a symbol, a text, or a functional term of such terms
+abbrev pub is_built_term : Term → Bool
+is_built_term = fold-Term Bool built_step
+
+-- an atom of such terms without strong negation
 abbrev pub is_built_atom : Atom → Bool
-is_built_atom a = not a.negated && no_terms a.args
+is_built_atom a = not a.negated && list_all is_built_term a.args
 
 -- such an atom, or `not` before one
 abbrev pub is_built_item : Item → Bool

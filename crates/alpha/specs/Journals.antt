@@ -3,12 +3,29 @@ use Rattle.std.specs.Prelude.{◌≡◌, ◌⊎◌, ◌+◌, ℕ, List, [], ◌�
 use Rattle.alpha_outside.specs.declared.event.Event.{Event}
 use Rattle.alpha_outside.specs.declared.event.Event.TheVariants as event
 use Rattle.asp_syntax.specs.declared.tree.Statement.{Statement}
+use Rattle.core_rules.specs.declared.rules.Core.{Core}
+use Rattle.choice_rewrite.specs.Splitting.{singles_of}
+use Rattle.rewriting.specs.CoreRules.{core_of}
+use Rattle.search_theory.specs.Instances.{Rules}
 use Rattle.search_theory.specs.Journals.{Legal, SaysAll, replay}
-use Rattle.plain_rules.specs.Rules.{plain_rules}
+use Rattle.core_meaning.specs.Atoms.{GroundAtom}
+use Rattle.search_rules.specs.Tests.{Maker}
+use Rattle.search_rules.specs.Rules.{Numbers, search_rules}
+use Rattle.search_rules.specs.Faults.{IsTooLarge}
 use Rattle.enumerator.specs.Search.{TraceChange}
 use Rattle.enumerator.specs.Journals.{Step, Tells, strikes, SomeStruck, AreLinesOf}
 use Rattle.alpha.specs.declared.status.Status.{Status}
 use Rattle.alpha.specs.declared.status.Status.TheVariants as status
+
+-- ---- what is searched
+
+-- the core of a program
+abbrev pub core_for : List Statement → Core
+core_for P = core_of (singles_of P)
+
+-- the rules of a search for its answer sets
+abbrev pub rules_for : List Statement → Rules Numbers GroundAtom Maker
+rules_for P = search_rules (core_for P)
 
 -- ---- what events tell
 
@@ -29,9 +46,9 @@ struck_events (_ ∷ more) = struck_events more
 -- the events are a legal journal for the program, and the lines are those of its `Shown` events, in order
 pub record AreShownLines (P : List Statement) (E : List Event) (lines : List (List ℕ)) : Type 0 where
   pub journal : List Step
-  pub legal : Legal (plain_rules P) [] journal
-  pub says : SaysAll (plain_rules P) E journal
-  pub lines_are : AreLinesOf (replay (plain_rules P) journal) (shown_sets E) lines
+  pub legal : Legal (rules_for P) [] journal
+  pub says : SaysAll (rules_for P) E journal
+  pub lines_are : AreLinesOf (replay (rules_for P) journal) (shown_sets E) lines
 
 -- the same, but for one whole line more
 abbrev pub AreShownLinesAndOne : List Statement → List Event → List (List ℕ) → Type 0
@@ -49,15 +66,31 @@ LinesAre P s E lines = AreShownLines P E lines
 -- a legal journal was told of a program, in which so many nogoods were struck, and one more is struck after it
 pub record HasSpent (P : List Statement) (trace : TraceChange) (number : ℕ) : Type 0 where
   pub journal : List Step
-  pub legal : Legal (plain_rules P) [] journal
-  pub tells : Tells (plain_rules P) trace.told trace.told' journal
+  pub legal : Legal (rules_for P) [] journal
+  pub tells : Tells (core_for P) trace.told trace.told' journal
   pub struck : strikes journal ≡ number
-  pub one_more : SomeStruck (replay (plain_rules P) journal)
+  pub one_more : SomeStruck (replay (rules_for P) journal)
 
 -- the events are a legal journal for the program with so many `Struck` events, and one more nogood is struck in its replay
 pub record AreSpent (P : List Statement) (E : List Event) (number : ℕ) : Type 0 where
   pub journal : List Step
-  pub legal : Legal (plain_rules P) [] journal
-  pub says : SaysAll (plain_rules P) E journal
+  pub legal : Legal (rules_for P) [] journal
+  pub says : SaysAll (rules_for P) E journal
   pub count : struck_events E ≡ number
-  pub one_more : SomeStruck (replay (plain_rules P) journal)
+  pub one_more : SomeStruck (replay (rules_for P) journal)
+
+-- ---- a term that is too large
+
+-- a legal journal was told of a program, after which a rule of this line has a term, or a part of one, of so many symbols
+pub record HasTooLarge (P : List Statement) (trace : TraceChange) (line size : ℕ) : Type 0 where
+  pub journal : List Step
+  pub legal : Legal (rules_for P) [] journal
+  pub tells : Tells (core_for P) trace.told trace.told' journal
+  pub too_large : IsTooLarge (core_for P) (replay (rules_for P) journal) line size
+
+-- the events are a legal journal for the program, in whose replay a rule of this line has such a term
+pub record AreTooLarge (P : List Statement) (E : List Event) (line size : ℕ) : Type 0 where
+  pub journal : List Step
+  pub legal : Legal (rules_for P) [] journal
+  pub says : SaysAll (rules_for P) E journal
+  pub too_large : IsTooLarge (core_for P) (replay (rules_for P) journal) line size

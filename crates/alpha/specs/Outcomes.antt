@@ -1,17 +1,22 @@
 -- What the work of a run comes to, by its status: its cause, what it wrote and what it noted. The promises of a run follow from it.
-use Rattle.std.specs.Prelude.{◌≡◌, ◌⊎◌, ◌+◌, ◌<◌, ◌≤◌, ℕ, List, ◌++◌, length, take, Option, Some, None}
+use Rattle.std.specs.Prelude.{◌≡◌, ◌⊎◌, ◌↔◌, ◌+◌, ◌<◌, ◌≤◌, ℕ, List, [], ◌∷◌, ◌++◌, length, take, Option, Some, None}
 use Rattle.std.specs.Io.KnownBytes.{Appends, Keeps}
-use Rattle.lists.specs.Lists.{◌∈◌, concat}
+use Rattle.lists.specs.Lists.{◌∈◌, HasNoRepeats, concat}
 use Rattle.alpha_outside.specs.Outside.{Rose, RoseBy, FileIs}
 use Rattle.asp_syntax.specs.declared.tree.Statement.{Statement}
+use Rattle.asp_meaning.specs.Atoms.{Atom}
+use Rattle.asp_meaning.specs.Programs.{IsAnswerSet}
 use Rattle.asp_meaning.specs.Output.{IsAnswerSetLine, IsBraceLine, AreAnswerSetLines, HaveAll}
 use Rattle.search_theory.specs.Journals.{replay}
-use Rattle.plain_rules.specs.Rules.{plain_rules}
+use Rattle.core_rules.specs.declared.rules.Core.{Core}
+use Rattle.core_meaning.specs.AnswerSets.{HasCoreSets}
+use Rattle.search_rules.specs.Faults.{IsTooLarge}
 use Rattle.enumerator.specs.Journals.{Step, strikes, SomeStruck}
-use Rattle.enumerator.specs.Search.{SinkChange, TraceChange, Journaled, Wrote, WroteOneMore}
+use Rattle.enumerator.specs.Search.{SinkChange, TraceChange, Journaled}
 use Rattle.enumerator.specs.declared.answers.End.{End}
 use Rattle.enumerator.specs.declared.answers.End.TheVariants as end
 use Rattle.enumerator.specs.declared.answers.Settings.{Settings}
+use Rattle.alpha.specs.Journals.{core_for, rules_for}
 use Rattle.alpha.specs.Texts.{last_line_of}
 use Rattle.alpha.specs.TextAnswers.{IsProgramText, IsRefusedText}
 use Rattle.alpha.specs.Promises.{Told, Counts, most_bytes, most_sets, most_conflicts, most_instances, joined_text, IsTooLongOf, IsLastLine}
@@ -27,6 +32,11 @@ pub record IsStill (sink : SinkChange) (trace : TraceChange) : Type 0 where
 
 -- ---- a search
 
+-- the core of the program, whose answer sets it has
+pub record IsCoreOf (P : List Statement) (core : Core) : Type 0 where
+  pub is : core ≡ core_for P
+  pub answer_sets : (I : List Atom) → HasNoRepeats I → IsAnswerSet P I ↔ HasCoreSets (core_for P) I
+
 -- how far a search may go
 abbrev pub defaults : Settings
 defaults = record { limit = most_sets; conflicts = most_conflicts; instances = most_instances }
@@ -36,13 +46,16 @@ abbrev pub status_of : End → Status
 status_of (end.Finished printed) = status.Finished printed
 status_of (end.LimitReached printed) = status.LimitReached printed
 status_of (end.Conflicts printed) = status.BudgetSpent budget.Conflicts most_conflicts printed
+status_of (end.TermTooLarge line size printed) = status.TermTooLarge line size printed
 
 -- how a run ends by itself, after these lines and this journal: at the limit exactly where as many lines were written
 abbrev pub EndsAs : List Statement → List (List ℕ) → List Step → Status → Type 0
 EndsAs P lines journal (status.Finished printed) = (printed ≡ length lines) × (length lines < most_sets) × HaveAll P lines
 EndsAs P lines journal (status.LimitReached printed) = (printed ≡ length lines) × (most_sets ≡ length lines)
 EndsAs P lines journal (status.BudgetSpent budget.Conflicts number printed) =
-    (printed ≡ length lines) × (length lines < most_sets) × (number ≡ most_conflicts) × (strikes journal ≡ number) × SomeStruck (replay (plain_rules P) journal)
+    (printed ≡ length lines) × (length lines < most_sets) × (number ≡ most_conflicts) × (strikes journal ≡ number) × SomeStruck (replay (rules_for P) journal)
+EndsAs P lines journal (status.TermTooLarge line size printed) =
+    (printed ≡ length lines) × (length lines < most_sets) × IsTooLarge (core_for P) (replay (rules_for P) journal) line size
 EndsAs P lines journal _ = ⊥
 
 -- the lines of answer sets, as the journal says, and then the last line
@@ -50,8 +63,23 @@ pub record WroteAll (P : List Statement) (sink : SinkChange) (trace : TraceChang
   pub lines : List (List ℕ)
   pub bytes : Appends sink.held sink.held' (concat lines ++ last_line_of s)
   pub sets : AreAnswerSetLines P lines
-  pub journaled : Journaled P trace lines
+  pub journaled : Journaled (core_for P) trace lines
   pub ends : EndsAs P lines journaled.journal s
+
+-- the lines of answer sets, as the journal says
+pub record Wrote (P : List Statement) (sink : SinkChange) (trace : TraceChange) : Type 0 where
+  pub lines : List (List ℕ)
+  pub bytes : Appends sink.held sink.held' (concat lines)
+  pub sets : AreAnswerSetLines P lines
+  pub journaled : Journaled (core_for P) trace lines
+
+-- and then the whole line of another one, which isn't in the journal
+pub record WroteOneMore (P : List Statement) (sink : SinkChange) (trace : TraceChange) : Type 0 where
+  pub lines : List (List ℕ)
+  pub next : List ℕ
+  pub bytes : Appends sink.held sink.held' (concat (lines ++ next ∷ []))
+  pub sets : AreAnswerSetLines P (lines ++ next ∷ [])
+  pub journaled : Journaled (core_for P) trace lines
 
 -- the line of another answer set than these, or the last line behind them
 abbrev pub IsNext : List Statement → List (List ℕ) → List ℕ → Type 0
@@ -64,7 +92,7 @@ pub record WroteFront (P : List Statement) (sink : SinkChange) (trace : TraceCha
   pub cut : ℕ
   pub bytes : Appends sink.held sink.held' (concat lines ++ take cut next)
   pub sets : AreAnswerSetLines P lines
-  pub journaled : Journaled P trace lines
+  pub journaled : Journaled (core_for P) trace lines
   pub next_is : IsNext P lines next
 
 -- what came of a program, by the status: it ended by itself, or the output, the trace or memory stopped it

@@ -9,7 +9,7 @@ use Rattle.asp_meaning.specs.Lines.{IsSetLine}
 use Rattle.enumerator.specs.Search.{SinkChange, TraceChange}
 use Rattle.alpha.specs.TextAnswers.{IsProgramText, IsRefusedText}
 use Rattle.alpha.specs.Texts.{last_line_of, message_of}
-use Rattle.alpha.specs.Journals.{HasSpent}
+use Rattle.alpha.specs.Journals.{HasSpent, HasTooLarge}
 use Rattle.alpha.specs.declared.status.BudgetKind.TheVariants as budget
 use Rattle.alpha.specs.declared.status.Refusal.{Refusal}
 use Rattle.alpha.specs.declared.status.Status.{Status}
@@ -117,6 +117,7 @@ abbrev pub HasPrinted : ℕ → Status → Type 0
 HasPrinted n (status.Finished printed) = printed ≡ n
 HasPrinted n (status.LimitReached printed) = printed ≡ n
 HasPrinted n (status.BudgetSpent kind number printed) = printed ≡ n
+HasPrinted n (status.TermTooLarge line size printed) = printed ≡ n
 HasPrinted n _ = ⊥
 
 -- a last line that says so many
@@ -137,6 +138,7 @@ abbrev pub OutputIs : ℕ → ℕ → Status → List ℕ → Type 0
 OutputIs faults faults' (status.Finished printed) b = IsWholeOutput (status.Finished printed) printed b
 OutputIs faults faults' (status.LimitReached printed) b = IsWholeOutput (status.LimitReached printed) printed b
 OutputIs faults faults' (status.BudgetSpent kind number printed) b = IsWholeOutput (status.BudgetSpent kind number printed) printed b
+OutputIs faults faults' (status.TermTooLarge line size printed) b = IsWholeOutput (status.TermTooLarge line size printed) printed b
 OutputIs faults faults' status.WriteFault b = IsCutOutput b
 OutputIs faults faults' status.TraceFault b = IsSetLines b
 OutputIs faults faults' status.OutOfMemory b = IsSetLines b ⊎ (Rose faults faults' × IsCutOutput b)
@@ -183,6 +185,7 @@ abbrev pub IsEnded : Status → Type 0
 IsEnded (status.Finished printed) = Unit {0}
 IsEnded (status.LimitReached printed) = Unit {0}
 IsEnded (status.BudgetSpent kind number printed) = Unit {0}
+IsEnded (status.TermTooLarge line size printed) = Unit {0}
 IsEnded status.OutOfMemory = Unit {0}
 IsEnded _ = ⊥
 
@@ -216,6 +219,8 @@ IsCaused asks told shelf sink trace (status.LimitReached printed) = (printed ≡
 IsCaused asks told shelf sink trace (status.BudgetSpent budget.Conflicts number printed) =
     (printed < most_sets) × (number ≡ most_conflicts) × ((name : List ℕ) × (asks ≡ Some name) × ((P : List Statement) × IsProgramOf told name P × HasSpent P trace number))
 IsCaused asks told shelf sink trace (status.BudgetSpent budget.Instances number printed) = ⊥
+IsCaused asks told shelf sink trace (status.TermTooLarge line size printed) =
+    (printed < most_sets) × ((name : List ℕ) × (asks ≡ Some name) × ((P : List Statement) × IsProgramOf told name P × HasTooLarge P trace line size))
 IsCaused asks told shelf sink trace status.Usage = asks ≡ None
 IsCaused asks told shelf sink trace (status.Refused refusal) = (name : List ℕ) × (asks ≡ Some name) × IsRefusedOf told name refusal
 IsCaused asks told shelf sink trace (status.TextTooLong long) =

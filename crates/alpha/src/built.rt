@@ -1,19 +1,51 @@
-//! Which statements are built: facts, rules with `not` and constraints over names. Every other form of the language is refused by the
-//! line of its first statement.
+//! Which statements are built: facts, rules with `not` and constraints over atoms with ground terms as arguments. Every other form of the
+//! language is refused by the line of its first statement.
 
-ghost use Rattle.std.specs.Prelude.{◌≡◌, None};
+ghost use Rattle.std.specs.Prelude.{◌≡◌};
 ghost use Rattle.std.specs.List.{list_all};
-ghost use Rattle.asp_syntax.specs.Trees.{IsWellFormedProgram};
-ghost use Rattle.plain_rules.specs.Plain.{IsPlainProgram};
-ghost use Rattle.alpha.specs.Built.{is_built_atom, is_built_item, is_built_head, is_built, unbuilt};
+ghost use Rattle.alpha.specs.Built.{is_built_term, is_built_atom, is_built_item, is_built_head, is_built, unbuilt};
 
-use asp_syntax::{Atom, Head, Item, Literal, Program, Statement};
+use asp_syntax::{Atom, Head, Item, Literal, Program, Statement, Term};
 
-// Whether the atom has neither strong negation nor arguments.
+// Whether the term has neither variables nor arithmetic. It recurses as deep as the term is nested.
+fn is_built_term(term: &Term) -> bool
+    ensures { result ≡ is_built_term term.now }
+{
+    match term {
+        Term::Int(_) => true,
+        Term::Variable(_) => false,
+        Term::Anonymous(_) => false,
+        Term::Symbol(_) => true,
+        Term::Text(_) => true,
+        Term::Fun(_, args) => {
+            for arg in args.as_slice() {
+                if !is_built_term(arg) {
+                    return false;
+                }
+            }
+            true
+        }
+        Term::Minus(_) => false,
+        Term::Arith(..) => false,
+    }
+}
+
+fn are_built_terms(terms: &[Term]) -> bool
+    ensures { result ≡ list_all is_built_term terms.now }
+{
+    for term in terms {
+        if !is_built_term(term) {
+            return false;
+        }
+    }
+    true
+}
+
+// Whether the atom has no strong negation, and such terms.
 fn is_built_atom(atom: &Atom) -> bool
     ensures { result ≡ is_built_atom atom.now }
 {
-    !atom.negated && atom.args.is_empty()
+    !atom.negated && are_built_terms(atom.args.as_slice())
 }
 
 fn is_built_item(item: &Item) -> bool
@@ -56,12 +88,10 @@ fn is_built(statement: &Statement) -> bool
 
 /// The line of the first statement that isn't built; `None` where every statement is.
 ///
-/// Built is a statement with one head or none whose body has literals alone, no comparisons, over atoms without strong negation and
-/// arguments. It takes no memory.
+/// Built is a statement with one head or none whose body has literals alone, no comparisons, over atoms without strong negation, whose
+/// arguments have neither variables nor arithmetic. It takes no memory.
 pub fn unbuilt(program: &Program) -> Option<u32>
-    ensures line { result ≡ unbuilt program.now.statements }
-    ensures plain { IsWellFormedProgram program.now → result ≡ None → IsPlainProgram program.now.statements }
-    ensures none { IsPlainProgram program.now.statements → result ≡ None }
+    ensures { result ≡ unbuilt program.now.statements }
 {
     for statement in program.statements.as_slice() {
         if !is_built(statement) {

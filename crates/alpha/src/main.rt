@@ -2,6 +2,7 @@
 #![tactic(auto)]
 
 mod built;
+mod cores;
 mod run;
 mod status;
 #[cfg(test)]

@@ -7,22 +7,22 @@ ghost use Rattle.alpha_outside.specs.Outside.{Rose};
 ghost use Rattle.asp_syntax.specs.declared.tree.Statement.{Statement as Rule};
 ghost use Rattle.asp_meaning.specs.Output.{set_lines, IsAnswerSetLine, HaveAll};
 ghost use Rattle.search_theory.specs.Journals.{IsLegal};
-ghost use Rattle.plain_rules.specs.Plain.{IsPlainProgram};
-ghost use Rattle.plain_rules.specs.Rules.{plain_rules};
+ghost use Rattle.search_rules.specs.Stage.{IsGroundCore};
 ghost use Rattle.alpha.specs.Words.{asked};
 ghost use Rattle.alpha.specs.Texts.{has_message};
-ghost use Rattle.alpha.specs.Journals.{LinesAre, AreSpent};
+ghost use Rattle.alpha.specs.Journals.{rules_for, LinesAre, AreSpent, AreTooLarge};
 ghost use Rattle.alpha.specs.Promises.{IsAccepted, IsRefusedFile, IsOverlong, IsAppended, OnlyAppends, OutputIs, MessageIs, IsNoted, OnlyNotes, NameIsKept};
 ghost use Rattle.alpha.specs.Promises.{IsUnsearched, IsEnded, IsRefusedWords, IsCaused, Gives, Counts, joined_text};
-ghost use Rattle.alpha.specs.Outcomes.{Searched, Treated, Outcome, defaults, status_of, IsReadFaultOf, IsTextTooLongOf};
+ghost use Rattle.alpha.specs.Outcomes.{IsCoreOf, Searched, Treated, Outcome, defaults, status_of, IsReadFaultOf, IsTextTooLongOf};
 ghost use Rattle.alpha.specs.declared.status.Refusal.{Refusal as Reason};
 
+use crate::cores::core_for;
 use crate::status::{BudgetKind, Status, last_line, message};
 use crate::text::read_text;
 use crate::words::asked;
 use alpha_outside::{Name, ReadStop, Shelf, Sink, SinkStop, Trace};
-use asp_syntax::Program;
-use enumerator::{End, SearchFault, Settings, search_plain};
+use core_rules::Core;
+use enumerator::{End, SearchFault, Settings, search};
 use std::alloc::Global;
 
 /// The most bytes that the program's file may have.
@@ -60,20 +60,29 @@ fn ended(end: End) -> Status
             number: MOST_CONFLICTS,
             printed,
         },
+        End::TermTooLarge {
+            line,
+            size,
+            printed,
+        } => Status::TermTooLarge {
+            line,
+            size,
+            printed,
+        },
     }
 }
 
 // Writes the answer sets and the last line, and notes the events.
-fn solve<O: Sink, T: Trace>(alloc: Global, program: Program, out: &mut O, trace: &mut T) -> Status
-    requires { IsPlainProgram program.statements }
+fn solve<O: Sink, T: Trace>(alloc: Global, core: Core, out: &mut O, trace: &mut T) -> Status
+    requires { IsGroundCore core }
     ensures out_later { O.faults out.old ≤ O.faults out.new }
     ensures trace_later { T.faults trace.old ≤ T.faults trace.new }
-    ensures searched { Searched program.statements
+    ensures searched { (P : List Rule) → IsCoreOf P core → Searched P
         (record { held = O.held out.old; held' = O.held out.new; faults = O.faults out.old; faults' = O.faults out.new })
         (record { told = T.journal trace.old; told' = T.journal trace.new; faults = T.faults trace.old; faults' = T.faults trace.new })
         result }
 {
-    let end = match search_plain(alloc, program, default_settings(), out, trace) {
+    let end = match search(alloc, core, default_settings(), out, trace) {
         Ok(end) => end,
         Err(SearchFault::WriteFault) => return Status::WriteFault,
         Err(SearchFault::TraceFault) => return Status::TraceFault,
@@ -127,8 +136,12 @@ fn solve_text<O: Sink, T: Trace>(
     if text.push(b'\n').is_err() {
         return Status::OutOfMemory;
     }
-    match read_text(alloc, &text) {
-        Ok(program) => solve(alloc, program, out, trace),
+    let program = match read_text(alloc, &text) {
+        Ok(program) => program,
+        Err(status) => return status,
+    };
+    match core_for(alloc, program) {
+        Ok(core) => solve(alloc, core, out, trace),
         Err(status) => status,
     }
 }
@@ -205,7 +218,7 @@ pub fn run<F: Shelf, O: Sink, E: Sink, T: Trace>(
     // The events are a legal journal of the program: what a lawful search may note. So each instance was made when its positive atoms
     // were true or had to be.
     ensures journal_is_legal { (P : List Rule) (E : List Event) → IsAccepted (asked (map string_bytes words.now)) (F.files shelf.old) P
-        → IsNoted (T.journal trace.old) (T.journal trace.new) E → IsLegal (plain_rules P) [] E }
+        → IsNoted (T.journal trace.old) (T.journal trace.new) E → IsLegal (rules_for P) [] E }
 
     // The set lines are those of the sets of the `Shown` events, in order; after a fault or want of memory there may be one more.
     ensures lines_are_shown_events { (P : List Rule) (b : List ℕ) (E : List Event) → IsAccepted (asked (map string_bytes words.now)) (F.files shelf.old) P
@@ -216,6 +229,12 @@ pub fn run<F: Shelf, O: Sink, E: Sink, T: Trace>(
     ensures budget_is_spent { (P : List Rule) (E : List Event) (number printed : ℕ) → IsAccepted (asked (map string_bytes words.now)) (F.files shelf.old) P
         → IsNoted (T.journal trace.old) (T.journal trace.new) E → result ≡ Status.BudgetSpent BudgetKind.Conflicts number printed
         → AreSpent P E number }
+
+    // Where a term is too large, a rule of this line, whose positive atoms are all true or must-be-true, has a term or part of a term of
+    // this size.
+    ensures term_too_large { (P : List Rule) (E : List Event) (line size printed : ℕ) → IsAccepted (asked (map string_bytes words.now)) (F.files shelf.old) P
+        → IsNoted (T.journal trace.old) (T.journal trace.new) E → result ≡ Status.TermTooLarge line size printed
+        → AreTooLarge P E line size }
 
     // What was written, byte for byte, at every status and whatever the file; what stood there before stays.
     ensures output_is_appended { OnlyAppends (O.held out.old) (O.held out.new) }

@@ -1,7 +1,7 @@
 //! How a run ends, and what is written of it.
 
 ghost use Rattle.std.specs.Prelude.{◌≡◌, ◌++◌, IfOk, string_bytes};
-ghost use Rattle.alpha.specs.Texts.{code_of, finished_line, limit_line, budget_line, last_line_of, around, placed, refusal_message, has_message, message_of};
+ghost use Rattle.alpha.specs.Texts.{code_of, finished_line, limit_line, budget_line, last_line_of, too_large_line, around, placed, lined, refusal_message, has_message, message_of};
 
 use alpha_outside::{List, Name, OutOfMemory};
 use asp_syntax::{Place, What};
@@ -22,6 +22,11 @@ pub enum Refusal {
     Unsupported { at: Place, what: What },
     /// The first statement that isn't built yet stands on this line.
     NotYet { line: u32 },
+    /// The first unsafe statement stands on this line, and this is its first variable that isn't bound, or `_`.
+    Unsafe { line: u32, variable: Name },
+    /// The first statement with a recursive aggregate stands on this line, and this is the first predicate in an element that is in the
+    /// statement's head or depends on it. A negated one has its `-`.
+    AggregateRecursive { line: u32, name: Name },
 }
 
 /// What a search may use up.
@@ -64,6 +69,13 @@ pub enum Status {
         number: u64,
         printed: u64,
     },
+    /// A rule of this line, whose positive atoms are all true or must-be-true, has a term, or a part of one, of so many symbols, which are
+    /// more than 1,048,576.
+    TermTooLarge {
+        line: u32,
+        size: u64,
+        printed: u64,
+    },
 }
 
 impl Status {
@@ -82,6 +94,7 @@ impl Status {
             Status::OutOfMemory => 9,
             Status::LimitReached { .. } => 10,
             Status::BudgetSpent { .. } => 11,
+            Status::TermTooLarge { .. } => 13,
         }
     }
 
@@ -93,6 +106,7 @@ impl Status {
             Status::Finished { .. } => false,
             Status::LimitReached { .. } => false,
             Status::BudgetSpent { .. } => false,
+            Status::TermTooLarge { .. } => false,
             _ => true,
         }
     }
@@ -153,6 +167,13 @@ fn budget_line(
     }
 }
 
+fn too_large_line(alloc: Global, line: u32, printed: u64) -> Result<List<u8>, OutOfMemory>
+    ensures { IfOk result (λ l. l ≡ too_large_line line printed) }
+{
+    let text = format!(in alloc; "% term too large line {line}, {printed} printed\n")?;
+    Ok(List::from_slice(alloc, text.as_bytes())?)
+}
+
 /// The last line on the output, with its line feed, or nothing where the status has none.
 pub fn last_line(alloc: Global, status: &Status) -> Result<List<u8>, OutOfMemory>
     ensures { IfOk result (λ l. l ≡ last_line_of status.now) }
@@ -165,6 +186,7 @@ pub fn last_line(alloc: Global, status: &Status) -> Result<List<u8>, OutOfMemory
             number,
             printed,
         } => budget_line(alloc, *budget, *number, *printed),
+        Status::TermTooLarge { line, printed, .. } => too_large_line(alloc, *line, *printed),
         _ => Ok(List::new(alloc)),
     }
 }
@@ -181,11 +203,34 @@ fn placed(alloc: Global, before: &[u8], at: Place) -> Result<List<u8>, OutOfMemo
     Ok(List::from_vec(text))
 }
 
-fn unbuilt_message(alloc: Global, line: u32) -> Result<List<u8>, OutOfMemory>
-    ensures { IfOk result (λ l. l ≡ refusal_message (Refusal.NotYet line)) }
+// A text behind the line of a statement.
+fn lined(alloc: Global, line: u32, after: &[u8]) -> Result<List<u8>, OutOfMemory>
+    ensures { IfOk result (λ l. l ≡ lined line after.now) }
 {
-    let text = format!(in alloc; "alpha: line {line}: not built yet\n")?;
-    Ok(List::from_slice(alloc, text.as_bytes())?)
+    let start = format!(in alloc; "alpha: line {line}")?;
+    let mut text = Vec::new(alloc);
+    text.extend_from_slice(start.as_bytes())?;
+    text.extend_from_slice(after)?;
+    Ok(List::from_vec(text))
+}
+
+fn unsafe_message(alloc: Global, line: u32, variable: &[u8]) -> Result<List<u8>, OutOfMemory>
+    ensures { IfOk result (λ l. l ≡ refusal_message (Refusal.Unsafe line variable.now)) }
+{
+    let after = around(alloc, b": variable ", variable, b" is not bound")?;
+    lined(alloc, line, after.as_slice())
+}
+
+fn recursive_message(alloc: Global, line: u32, name: &[u8]) -> Result<List<u8>, OutOfMemory>
+    ensures { IfOk result (λ l. l ≡ refusal_message (Refusal.AggregateRecursive line name.now)) }
+{
+    let after = around(
+        alloc,
+        b": the aggregate over ",
+        name,
+        b" depends on its own head",
+    )?;
+    lined(alloc, line, after.as_slice())
 }
 
 fn refusal_message(alloc: Global, refusal: &Refusal) -> Result<List<u8>, OutOfMemory>
@@ -197,7 +242,11 @@ fn refusal_message(alloc: Global, refusal: &Refusal) -> Result<List<u8>, OutOfMe
         Refusal::Syntax { at } => placed(alloc, b"alpha: syntax fault at byte ", *at),
         Refusal::TooDeep { at } => placed(alloc, b"alpha: nested too deep at byte ", *at),
         Refusal::Unsupported { at, .. } => placed(alloc, b"alpha: unsupported at byte ", *at),
-        Refusal::NotYet { line } => unbuilt_message(alloc, *line),
+        Refusal::NotYet { line } => lined(alloc, *line, b": not built yet\n"),
+        Refusal::Unsafe { line, variable } => unsafe_message(alloc, *line, variable.as_bytes()),
+        Refusal::AggregateRecursive { line, name } => {
+            recursive_message(alloc, *line, name.as_bytes())
+        }
     }
 }
 
@@ -213,6 +262,7 @@ pub fn message(alloc: Global, status: &Status) -> Result<List<u8>, OutOfMemory>
         Status::Finished { .. } => Ok(List::new(alloc)),
         Status::LimitReached { .. } => Ok(List::new(alloc)),
         Status::BudgetSpent { .. } => Ok(List::new(alloc)),
+        Status::TermTooLarge { .. } => Ok(List::new(alloc)),
         Status::Usage => Ok(List::from_slice(alloc, USAGE)?),
         Status::Refused(refusal) => refusal_message(alloc, refusal),
         Status::TextTooLong { name } => around(alloc, b"alpha: ", name.as_bytes(), b" is too long"),

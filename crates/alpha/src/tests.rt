@@ -1,6 +1,6 @@
 use crate::run::run;
-use crate::status::{BudgetKind, Status, last_line};
-use alpha_outside::{Event, List, MemShelf, MemSink, MemTrace};
+use crate::status::{BudgetKind, Refusal, Status, last_line, message};
+use alpha_outside::{Event, List, MemShelf, MemSink, MemTrace, Name};
 use std::alloc::Global;
 use std::test::Fail;
 
@@ -88,6 +88,28 @@ fn programs_and_their_answer_sets(rt: HostRuntime) -> Result<(), Fail> {
 }
 
 #[test]
+fn atoms_with_arguments(rt: HostRuntime) -> Result<(), Fail> {
+    let rows = [
+        (
+            b"p(f(1)). q(\"a b\",-2) :- p(f(1)), not r.".as_slice(),
+            "0 {p(f(1)), q(\"a b\",-2)}\n% complete, 1 printed\n||1",
+        ),
+        (
+            b"p(10). p(9). p(a) :- p(10), not p(b). p. :- p(b).".as_slice(),
+            "0 {p, p(9), p(10), p(a)}\n% complete, 1 printed\n||1",
+        ),
+        (
+            b"p(1) :- p(2). p(2) :- p(1).".as_slice(),
+            "0 {}\n% complete, 1 printed\n||1",
+        ),
+    ];
+    for (text, want) in rows {
+        assert_eq!(rt; solved(rt.alloc(), text)?.as_str(), want);
+    }
+    Ok(())
+}
+
+#[test]
 fn what_supports_itself_alone_is_in_no_set(rt: HostRuntime) -> Result<(), Fail> {
     let rows = [
         (
@@ -155,7 +177,16 @@ fn texts_that_are_refused_by_place(rt: HostRuntime) -> Result<(), Fail> {
 #[test]
 fn forms_that_are_not_built_are_refused_by_line(rt: HostRuntime) -> Result<(), Fail> {
     let rows = [
-        (b"p(1).".as_slice(), "3 |alpha: line 1: not built yet\n|0"),
+        (b"p(X).".as_slice(), "3 |alpha: line 1: not built yet\n|0"),
+        (
+            b"p(f(_)).".as_slice(),
+            "3 |alpha: line 1: not built yet\n|0",
+        ),
+        (
+            b"p(1).\nq :- p(1+1).".as_slice(),
+            "3 |alpha: line 2: not built yet\n|0",
+        ),
+        (b"p(-a).".as_slice(), "3 |alpha: line 1: not built yet\n|0"),
         (
             b"a.\nb :- a,\n  p(X).\n-c.".as_slice(),
             "3 |alpha: line 2: not built yet\n|0",
@@ -336,5 +367,57 @@ fn last_lines_of_searches_that_were_stopped(rt: HostRuntime) -> Result<(), Fail>
         printed: 0,
     };
     assert!(rt; ends_with(alloc, &instances, 11, b"% budget instances 5, 0 printed\n"));
+    let too_large = Status::TermTooLarge {
+        line: 3,
+        size: 1_048_577,
+        printed: 2,
+    };
+    assert!(rt;
+        ends_with(
+            alloc,
+            &too_large,
+            13,
+            b"% term too large line 3, 2 printed\n"
+        )
+    );
+    assert!(rt; speaks_so(alloc, &too_large, 13, b""));
+    Ok(())
+}
+
+// Whether the status has this code and this message.
+fn speaks_so(alloc: Global, status: &Status, code: u8, want: &[u8]) -> bool {
+    match message(alloc, status) {
+        Ok(text) => status.code() == code && text.as_slice() == want,
+        Err(_) => false,
+    }
+}
+
+#[test]
+fn messages_of_programs_that_are_refused(rt: HostRuntime) -> Result<(), Fail> {
+    let alloc = rt.alloc();
+    let refused = Status::Refused(Refusal::Unsafe {
+        line: 12,
+        variable: Name::from_bytes(alloc, b"X1")?,
+    });
+    assert!(rt;
+        speaks_so(
+            alloc,
+            &refused,
+            3,
+            b"alpha: line 12: variable X1 is not bound\n"
+        )
+    );
+    let recursive = Status::Refused(Refusal::AggregateRecursive {
+        line: 2,
+        name: Name::from_bytes(alloc, b"-p")?,
+    });
+    assert!(rt;
+        speaks_so(
+            alloc,
+            &recursive,
+            3,
+            b"alpha: line 2: the aggregate over -p depends on its own head\n"
+        )
+    );
     Ok(())
 }

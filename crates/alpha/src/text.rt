@@ -1,8 +1,9 @@
 //! From a text to its program: tokens, the tree, and whether each of its statements is built.
 
-ghost use Rattle.std.specs.Prelude.{◌≡◌, ◌≤◌, length, IfOk, IfErr};
-ghost use Rattle.plain_rules.specs.Plain.{IsPlainProgram};
-ghost use Rattle.alpha.specs.TextAnswers.{IsProgramText, IsStopOf, lex_status, parse_status};
+ghost use Rattle.std.specs.Prelude.{◌≡◌, ◌≤◌, length, None, IfOk, IfErr};
+ghost use Rattle.asp_syntax.specs.Trees.{IsWellFormedProgram};
+ghost use Rattle.alpha.specs.Built.{unbuilt};
+ghost use Rattle.alpha.specs.TextAnswers.{IsBuiltText, IsStopOf, lex_status, parse_status};
 
 use crate::built::unbuilt;
 use crate::status::{Refusal, Status};
@@ -38,8 +39,9 @@ fn parse_status(fault: ParseFault) -> Status
 /// The program of a text, each of whose statements is built; or the status with which the run ends.
 pub fn read_text(alloc: Global, text: &[u8]) -> Result<Program, Status>
     requires { length text.now ≤ 16777217 }
-    ensures program { IfOk result (λ program. IsProgramText text.now program.statements) }
-    ensures plain { IfOk result (λ program. IsPlainProgram program.statements) }
+    ensures program { IfOk result (λ program. IsBuiltText text.now program.statements) }
+    ensures well_formed { IfOk result IsWellFormedProgram }
+    ensures built { IfOk result (λ program. unbuilt program.statements ≡ None) }
     ensures stop { IfErr result (IsStopOf text.now) }
 {
     let tokens = match lex(alloc, text) {

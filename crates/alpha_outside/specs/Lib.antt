@@ -8,3 +8,5 @@ pub mod NodeLaws
 pub mod Preds
 pub mod PredLaws
 pub mod Steps
+pub mod Makers
+pub mod MakerLaws

@@ -39,7 +39,7 @@ module _ (terms : List Node) (pool : Pool) (t : IsPool terms) (p : IsAtomPool po
   abbrev AtomBelow : ℕ → ℕ → Bool
   AtomBelow x y = is_lt (atom_cmp (atom_at terms pool x) (atom_at terms pool y))
 
-  pub in_order : (xs : List ℕ) → Each (IsUserAtom pool) xs → HasNoRepeats xs → Ascends AtomBelow xs → IsInOrder (map (atom_at terms pool) xs)
+  in_order : (xs : List ℕ) → Each (IsUserAtom pool) xs → HasNoRepeats xs → Ascends AtomBelow xs → IsInOrder (map (atom_at terms pool) xs)
   in_order [] users once up = tt
   in_order (x ∷ xs) users once up = (
     Each-from (λ b. atom_cmp (atom_at terms pool x) b ≡ Less) (map (atom_at terms pool) xs) (λ b among.
@@ -52,6 +52,12 @@ module _ (terms : List Node) (pool : Pool) (t : IsPool terms) (p : IsAtomPool po
     in_order xs users.1 once.1 up.1,
   )
 
+  -- the sorted ids of a set are in the order of its line
+  pub sorted_in_order : (xs ys : List ℕ) → Each (IsUserAtom pool) xs → HasNoRepeats xs → IsPermutation xs ys → Ascends AtomBelow ys → IsInOrder (map (atom_at terms pool) ys)
+  sorted_in_order xs ys users once moved up =
+      in_order ys (Each-from (IsUserAtom pool) ys (λ y among. Each-at (IsUserAtom pool) xs y users ((permuted_members xs ys moved).back y among))) (permuted_once xs ys moved once) up
+
+module _ (terms : List Node) (pool : Pool) where
   mapped_set : (xs ys : List ℕ) → SameSet xs ys → SameSet (map (atom_at terms pool) xs) (map (atom_at terms pool) ys)
   mapped_set xs ys same = record {
     to = λ a among. let found = ∈-map_from (atom_at terms pool) a xs among in
@@ -60,12 +66,6 @@ module _ (terms : List Node) (pool : Pool) (t : IsPool terms) (p : IsAtomPool po
         subst (λ z. z ∈ map (atom_at terms pool) xs) (sym found.2) (∈-map (atom_at terms pool) found.0 xs (same.back found.0 found.1));
   }
 
-  -- the line of sorted ids
-  pub sorted_line : (xs ys line : List ℕ) → Each (IsUserAtom pool) xs → HasNoRepeats xs → IsPermutation xs ys → Ascends AtomBelow ys → line ≡ line_of (map (atom_at terms pool) ys)
-      → IsSetLine (map (atom_at terms pool) xs) line
-  sorted_line xs ys line users once moved up is = record {
-    sorted = map (atom_at terms pool) ys;
-    same = mapped_set xs ys (permuted_members xs ys moved);
-    in_order = in_order ys (Each-from (IsUserAtom pool) ys (λ y among. Each-at (IsUserAtom pool) xs y users ((permuted_members xs ys moved).back y among))) (permuted_once xs ys moved once) up;
-    text = is;
-  }
+  -- the line of the ids of a set in order is that of the set
+  pub sorted_line : (xs ys line : List ℕ) → SameSet xs ys → IsInOrder (map (atom_at terms pool) ys) → line ≡ line_of (map (atom_at terms pool) ys) → IsSetLine (map (atom_at terms pool) xs) line
+  sorted_line xs ys line same up is = record { sorted = map (atom_at terms pool) ys; same = mapped_set xs ys same; in_order = up; text = is }

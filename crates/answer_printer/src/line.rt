@@ -1,8 +1,8 @@
 //! The line of a set of atoms of a pool. The ids are sorted once, by what their atoms mean, and then printed in order.
 
 ghost use Rattle.std.specs.Prelude.{◌≡◌, ◌++◌, IfOk, OnOk, codes, length, map};
-ghost use Rattle.lists.specs.Lists.{Each, HasNoRepeats};
-ghost use Rattle.asp_meaning.specs.Lines.{IsSetLine, atom_text, each_after, joined, line_of};
+ghost use Rattle.lists.specs.Lists.{Each, HasNoRepeats, SameSet};
+ghost use Rattle.asp_meaning.specs.Lines.{IsInOrder, IsSetLine, atom_text, each_after, joined, line_of};
 ghost use Rattle.term_pool.specs.Nodes.{IsPool};
 ghost use Rattle.atom_pool.specs.Meanings.{IsBeside, IsUserAtom, atom_at};
 
@@ -68,6 +68,43 @@ fn line_in_order(
     Ok(List::from_vec(text))
 }
 
+// The ids of a set of atoms whose terms are these nodes, in the order of its line.
+fn sorted_ids(
+    alloc: Global,
+    atoms: &[AtomId],
+    pool: &AtomPool,
+    terms: &[Node],
+) -> Result<Vec<AtomId>, OutOfMemory>
+    requires terms { IsPool terms.now }
+    requires user { Each (IsUserAtom pool.now) atoms.now }
+    requires distinct { HasNoRepeats atoms.now }
+    requires beside { IsBeside pool.now (length terms.now) }
+    ensures same { IfOk result (λ v. SameSet atoms.now v.items) }
+    ensures in_order { IfOk result (λ v. IsInOrder (map (atom_at terms.now pool.now) v.items)) }
+{
+    // The length comes with what the pool promises of itself: nothing stands twice, so different ids differ in meaning.
+    let _ = pool.len();
+    let mut sorted = Vec::from_slice(alloc, atoms)?;
+    sorted.sort_unstable_by(|a, b| compare_atoms(pool, terms, *a, *b));
+    Ok(sorted)
+}
+
+/// The ids of a set of atoms in the order of its line. It costs one sort.
+pub fn sorted_atoms(
+    alloc: Global,
+    atoms: &[AtomId],
+    pool: &AtomPool,
+    terms: &TermPool,
+) -> Result<Vec<AtomId>, OutOfMemory>
+    requires user { Each (IsUserAtom pool.now) atoms.now }
+    requires distinct { HasNoRepeats atoms.now }
+    requires beside { IsBeside pool.now (length terms.now) }
+    ensures same { IfOk result (λ v. SameSet atoms.now v.items) }
+    ensures in_order { IfOk result (λ v. IsInOrder (map (atom_at terms.now pool.now) v.items)) }
+{
+    sorted_ids(alloc, atoms, pool, terms.nodes())
+}
+
 /// The line of a set of atoms whose terms are these nodes, with its line feed.
 pub fn set_line_of(
     alloc: Global,
@@ -81,10 +118,7 @@ pub fn set_line_of(
     requires beside { IsBeside pool.now (length terms.now) }
     ensures { IfOk result (IsSetLine (map (atom_at terms.now pool.now) atoms.now)) }
 {
-    // The length comes with what the pool promises of itself: nothing stands twice, so different ids differ in meaning.
-    let _ = pool.len();
-    let mut sorted = Vec::from_slice(alloc, atoms)?;
-    sorted.sort_unstable_by(|a, b| compare_atoms(pool, terms, *a, *b));
+    let sorted = sorted_ids(alloc, atoms, pool, terms)?;
     line_in_order(alloc, sorted.as_slice(), pool, terms)
 }
 

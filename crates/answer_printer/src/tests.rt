@@ -3,8 +3,8 @@ ghost use Rattle.term_pool.specs.Nodes.{PartsBelow, HasArguments};
 ghost use Rattle.answer_printer.specs.Made.{AreMade};
 
 use crate::reading::ids;
-use crate::{SetFault, read_set_line, set_line};
-use alpha_outside::{List, Name, Node, Pred, TermId};
+use crate::{SetFault, read_set_line, set_line, sorted_atoms};
+use alpha_outside::{AtomId, List, Name, Node, Pred, TermId};
 use atom_pool::AtomPool;
 use std::alloc::Global;
 use std::test::Fail;
@@ -151,6 +151,14 @@ impl Made {
         let all = ids(alloc, self.atoms.len())?;
         Ok(set_line(alloc, all.as_slice(), &self.atoms, &self.terms)?)
     }
+
+    // The ids of all atoms in the order of their line.
+    fn sorted(&self, alloc: Global) -> Result<Vec<AtomId>, Fail>
+        requires { AreMade self.now.terms self.now.atoms self.now.stack.items }
+    {
+        let all = ids(alloc, self.atoms.len())?;
+        Ok(sorted_atoms(alloc, all.as_slice(), &self.atoms, &self.terms)?)
+    }
 }
 
 // The steps to one of nine atoms, in the order in which they are printed.
@@ -177,20 +185,29 @@ fn steps_to(atom: usize) -> &'static [Step] {
     }
 }
 
-// The line of the atoms that were made and of these.
-fn line_with(alloc: Global, made: &mut Made, order: &[usize]) -> Result<List<u8>, Fail>
+// Makes these atoms, one after another.
+fn make(alloc: Global, made: &mut Made, order: &[usize]) -> Result<(), Fail>
     requires { AreMade made.old.terms made.old.atoms made.old.stack.items }
+    ensures { OnOk result (AreMade made.new.terms made.new.atoms made.new.stack.items) }
 {
     for atom in order {
         made.steps(alloc, steps_to(*atom))?;
     }
-    made.line(alloc)
+    Ok(())
 }
 
 // The line of atoms that are made in this order.
 fn line_of(alloc: Global, order: &[usize]) -> Result<List<u8>, Fail> {
     let mut made = Made::new(alloc);
-    line_with(alloc, &mut made, order)
+    make(alloc, &mut made, order)?;
+    made.line(alloc)
+}
+
+// The ids of atoms that are made in this order, in the order of their line.
+fn sorted_of(alloc: Global, order: &[usize]) -> Result<Vec<AtomId>, Fail> {
+    let mut made = Made::new(alloc);
+    make(alloc, &mut made, order)?;
+    made.sorted(alloc)
 }
 
 /// The line of the first eight atoms.
@@ -226,6 +243,30 @@ fn atoms_have_one_line_in_whatever_order(rt: HostRuntime) -> Result<(), Fail> {
         let made = line_of(alloc, order)?;
         assert_eq!(rt; made.as_slice(), line, "in the order {order:?}");
         assert!(rt; reads_as_itself(alloc, made.as_slice()));
+    }
+    Ok(())
+}
+
+// Whether the ids are these numbers.
+fn are_numbered(ids: &[AtomId], numbers: &[u32]) -> bool {
+    ids.len() == numbers.len() && ids.iter().zip(numbers).all(|(id, number)| id.0 == *number)
+}
+
+#[test]
+fn ids_are_sorted_as_their_atoms_are_printed(rt: HostRuntime) -> Result<(), Fail> {
+    let alloc = rt.alloc();
+    let rows = [
+        ([].as_slice(), [].as_slice()),
+        (&[8, 7], &[1, 0]),
+        (&[0, 1, 2], &[0, 1, 2]),
+        (&[3, 7, 0, 5, 2, 6, 1, 4], &[2, 6, 4, 0, 7, 3, 5, 1]),
+    ];
+    for (order, numbers) in rows {
+        let sorted = sorted_of(alloc, order)?;
+        assert!(rt;
+            are_numbered(sorted.as_slice(), numbers),
+            "in the order {order:?}"
+        );
     }
     Ok(())
 }

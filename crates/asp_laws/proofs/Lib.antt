@@ -15,3 +15,6 @@ pub mod ChoiceLaw
 pub mod Output
 pub mod Written
 pub mod Numerals
+pub mod Endings
+pub mod Readable
+pub mod WholeLines

@@ -65,7 +65,7 @@ atom_cmp_total =
     (then_total (on_total (λ (a : Atom). length a.args) nat_cmp_total)
     (then_total (on_total (λ (a : Atom). a.args) (lists_total value_cmp_total)) (on_total (λ (a : Atom). a.negated) sign_total)))
 
-values_same : (xs ys : List Value) → values_cmp xs ys ≡ Equal → xs ≡ ys
+pub values_same : (xs ys : List Value) → values_cmp xs ys ≡ Equal → xs ≡ ys
 values_same [] [] e = refl
 values_same [] (y ∷ ys) e = less_equal e
 values_same (x ∷ xs) [] e = greater_equal e

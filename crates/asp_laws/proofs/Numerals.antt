@@ -40,22 +40,29 @@ natural_read n = reads_back (suc n) n [] (omega arith)
 natural_own : (m n : ℕ) → natural_text m ≡ natural_text n → m ≡ n
 natural_own m n e = sym (natural_read m) ∙ ap (read_after 0) e ∙ natural_read n
 
+-- the byte is that of a digit
+abbrev pub IsDigit : ℕ → Type 0
+IsDigit c = (48 ≤ c) × (c ≤ 57)
+
 -- each byte is that of a digit, so none is a minus sign
-all_digits : (k n : ℕ) (text : List ℕ) → Each (λ c. 48 ≤ c) text → Each (λ c. 48 ≤ c) (digits_onto k 10 false n text)
+all_digits : (k n : ℕ) (text : List ℕ) → Each IsDigit text → Each IsDigit (digits_onto k 10 false n text)
 all_digits zero n text given = given
 all_digits (suc k) n text given =
     by_case (n / 10 == 0) (all_digits k (n / 10) (digit_glyph false (n % 10) ∷ text) more)
   where
-    more : Each (λ c. 48 ≤ c) (digit_glyph false (n % 10) ∷ text)
-    more = let digit = last_glyph n in (omega arith, given)
+    more : Each IsDigit (digit_glyph false (n % 10) ∷ text)
+    more = let digit = last_glyph n in ((omega arith, omega arith), given)
 
-    by_case : (v : Bool) → Each (λ c. 48 ≤ c) (digits_onto k 10 false (n / 10) (digit_glyph false (n % 10) ∷ text))
-        → Each (λ c. 48 ≤ c) (if v then digit_glyph false (n % 10) ∷ text else digits_onto k 10 false (n / 10) (digit_glyph false (n % 10) ∷ text))
+    by_case : (v : Bool) → Each IsDigit (digits_onto k 10 false (n / 10) (digit_glyph false (n % 10) ∷ text))
+        → Each IsDigit (if v then digit_glyph false (n % 10) ∷ text else digits_onto k 10 false (n / 10) (digit_glyph false (n % 10) ∷ text))
     by_case true longer = more
     by_case false longer = longer
 
+pub natural_digits : (n : ℕ) → Each IsDigit (natural_text n)
+natural_digits n = all_digits (suc n) n [] tt
+
 no_minus : (n : ℕ) (text : List ℕ) → ¬ (natural_text n ≡ 45 ∷ text)
-no_minus n text e = let digits = subst (Each (λ c. 48 ≤ c)) e (all_digits (suc n) n [] tt) in omega (arith, digits.0)
+no_minus n text e = let digits = subst (Each IsDigit) e (natural_digits n) in omega (arith, digits.0)
 
 pub integers_have_their_own_text : IntegersOfAnySizeHaveTheirOwnText
 integers_have_their_own_text (pos m) (pos n) e = ap pos (natural_own m n e)

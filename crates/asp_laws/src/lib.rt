@@ -18,6 +18,7 @@ ghost use Rattle.asp_laws.specs.Laws.{AConstraintOnlyTakesAway, AFactIsInEachAns
 ghost use Rattle.asp_laws.specs.Laws.{ArithmeticWithoutAValueGivesNoInstance, AStatementWithoutInstancesSaysNothing, NoDivisionByZero, NoArithmeticOnSymbols, DivisionCutsTowardsZero};
 ghost use Rattle.asp_laws.specs.Laws.{KindsAreInOrder, EachKindIsOrdered, EqualIsTheSame, ComparisonsAreOpposites};
 ghost use Rattle.asp_laws.specs.Laws.{AtomsThatStandLevelAreTheSame, ASetHasALine, ASetHasOneLine, EachKindIsWritten, IntegersOfAnySizeHaveTheirOwnText, ALineIsWritten};
+ghost use Rattle.asp_laws.specs.ReadableAtoms.{LinesTellTheirSets, OneLineForTheSameSet, LinesOfReadableAtomsAreWhole};
 ghost use Rattle.asp_laws.specs.Laws.{ALineEndsAtItsLineFeed, NoLineWithoutALineFeed, ASetLineIsReadBack};
 
 /// The order of the statements of a program does not matter, nor that of the atoms in a list that stands for a set.
@@ -123,4 +124,12 @@ pub fn set_lines_are_read_back()
     ensures a_line_ends_at_its_line_feed { ALineEndsAtItsLineFeed }
     ensures no_line_without_a_line_feed { NoLineWithoutALineFeed }
     ensures a_set_line_is_read_back { ASetLineIsReadBack }
+{}
+
+/// A line tells its set, where the names and texts in it are those of the language: the atoms of two sets with one line are the same.
+/// Such an atom has no line feed in its text, so that the line is one whole line.
+pub fn lines_tell_their_sets()
+    ensures lines_tell_their_sets { LinesTellTheirSets }
+    ensures one_line_for_the_same_set { OneLineForTheSameSet }
+    ensures lines_of_readable_atoms_are_whole { LinesOfReadableAtomsAreWhole }
 {}

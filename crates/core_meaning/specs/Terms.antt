@@ -1,5 +1,5 @@
 -- The value of a core term under values for the variables, and when a test is true.
-use Rattle.std.specs.Prelude.{pos, Bool, not, ◌&&◌, List, map, Option, Some, None, slice_get}
+use Rattle.std.specs.Prelude.{ℕ, pos, Bool, not, ◌&&◌, List, map, Option, Some, None, slice_get}
 use Rattle.alpha_outside.specs.declared.kinds.ArithOp.TheVariants.{Sub}
 use Rattle.asp_syntax.specs.declared.tree.CompareOp.{CompareOp}
 use Rattle.core_rules.specs.declared.rules.CoreTerm.{CoreTerm}
@@ -13,21 +13,32 @@ use Rattle.asp_meaning.specs.declared.value.Value.TheVariants as value
 use Rattle.asp_meaning.specs.Terms.{operation, all_of, functional_of}
 use Rattle.asp_meaning.specs.Orders.{value_cmp, passes}
 
+-- values for some variables of a rule, by their numbers
+abbrev pub Partly : Type 0
+Partly = ℕ → Option Value
+
+-- the value of a term, from the values of its parts
+abbrev pub step_partly : Partly → CoreTerm-F (Option Value) → Option Value
+step_partly p (term.Int n) = Some (value.Int n)
+step_partly p (term.Var v) = p v
+step_partly p (term.Symbol x) = Some (value.Symbol x)
+step_partly p (term.Text x) = Some (value.Text x)
+step_partly p (term.Fun f args) = functional_of f (all_of args)
+step_partly p (term.Minus t) = operation Sub (Some (value.Int (pos 0))) t
+step_partly p (term.Arith op l r) = operation op l r
+
+-- the value of a term, or none where its arithmetic is undefined or a variable has no value
+abbrev pub eval_partly : Partly → CoreTerm → Option Value
+eval_partly p = fold-CoreTerm (Option Value) (step_partly p)
+
 -- the value of each variable of a rule, in the order of their numbers
 abbrev pub Binding : Type 0
 Binding = List Value
 
--- the value of a term, from the values of its parts
 abbrev pub eval_step : Binding → CoreTerm-F (Option Value) → Option Value
-eval_step b (term.Int n) = Some (value.Int n)
-eval_step b (term.Var v) = slice_get b v
-eval_step b (term.Symbol x) = Some (value.Symbol x)
-eval_step b (term.Text x) = Some (value.Text x)
-eval_step b (term.Fun f args) = functional_of f (all_of args)
-eval_step b (term.Minus t) = operation Sub (Some (value.Int (pos 0))) t
-eval_step b (term.Arith op l r) = operation op l r
+eval_step b = step_partly (slice_get b)
 
--- the value of a term, or none where its arithmetic is undefined or a variable has no value
+-- the value of a term where each variable has one
 abbrev pub eval : Binding → CoreTerm → Option Value
 eval b = fold-CoreTerm (Option Value) (eval_step b)
 

@@ -12,23 +12,26 @@ use Rattle.search_theory.specs.Nogoods.{Nogood, IsStruck}
 use Rattle.search_theory.specs.States as phase
 use Rattle.search_theory.specs.States.{State, Phase}
 use Rattle.search_theory.specs.Events.{How, Decisions, Enumerated, phase_struck, phase_learned, lits_at, lits_in}
+use Rattle.search_theory.specs.Journals.{replay}
 use Rattle.search_theory.proofs.Basics.{get_last, in_single}
-use Rattle.ground_search.specs.Searching.{Searching, ids, jump_of}
-use Rattle.enumerator.specs.Journals.{Reached, SomeStruck}
+use Rattle.ground_search.specs.Searching.{Searching, ids, state_of, jump_of}
+use Rattle.search_rules.specs.Rules.{Reached, search_rules}
+use Rattle.search_rules.specs.Faults.{IsTooLarge}
+use Rattle.enumerator.specs.Journals.{SomeStruck}
 use Rattle.enumerator.specs.Standing as standing
-use Rattle.enumerator.specs.Standing.{Stands, StandsAt, Fits, Carries, Ends, EndsBy, IsReady, IsFirm, IsGrounded, BareAreMade, IsTraceFault, IsRoundFault, Leaves}
+use Rattle.enumerator.specs.Standing.{Stands, StandsAt, Fits, Carries, Ends, EndsBy, IsReady, IsKept, IsFirm, IsGrounded, BareAreMade, IsTraceFault, IsRoundFault, Leaves}
 use Rattle.enumerator.specs.Moves.{MoveIs}
 use Rattle.enumerator.specs.declared.moves.Move.TheVariants as move
 use Rattle.enumerator.specs.declared.answers.SearchFault.{SearchFault}
 use Rattle.enumerator.specs.declared.answers.SearchFault.TheVariants.{WriteFault, TraceFault, OutOfMemory}
 use Rattle.enumerator.specs.declared.settle.Finish.{Finish}
 use Rattle.enumerator.specs.declared.settle.Finish.TheVariants as finish
-use Rattle.enumerator.specs.Settling.{IsKept, IsLearned, IsFound, MayLearnNow, struck_by, learned_by, gone_back, chosen_nogood, Carried, Settled, Again, Rounds, Outcome}
-use Rattle.enumerator.proofs.Standing.{named_at, cause_on}
+use Rattle.enumerator.specs.Settling.{IsLearned, IsFound, MayLearnNow, struck_by, learned_by, gone_back, chosen_nogood, Carried, Settled, Again, Rounds, Outcome}
+use Rattle.enumerator.proofs.Standing.{cause_on}
+use Rattle.enumerator.proofs.Unlisted.{too_large_on}
 use Rattle.enumerator.proofs.Readying.{none_empty, bare_made}
 use Rattle.enumerator.proofs.Choosing.{back_among, all_low, chosen_below}
 use Rattle.enumerator.proofs.Learning.{learned_struck}
-use Rattle.enumerator.proofs.Stepping.{fits_after}
 
 -- ---- the end
 
@@ -38,7 +41,6 @@ module _ (g : standing.Given) (v : Searching) (told : Option outside.Journal) (h
     journal = s.0;
     legal = s.1.legal;
     tells = s.1.tells;
-    named = named_at g v told held left rest s.0 fits s.1;
     hands = s.1.hands;
     sets_left = s.1.sets_left;
     strikes_left = s.1.strikes_left;
@@ -65,6 +67,15 @@ module _ (g : standing.Given) (v : Searching) (told : Option outside.Journal) (h
   pub ends_limit : left ≡ 0 → Ends g told held left rest finish.LimitReached
   ends_limit none = ends_by finish.LimitReached none
 
+  -- a term is too large
+  pub ends_too_large : 0 < left → (line size : ℕ) → IsTooLarge v.core (state_of v) line size → Ends g told held left rest (finish.TermTooLarge line size)
+  ends_too_large room line size large =
+      ends_by (finish.TermTooLarge line size) (
+        room,
+        too_large_on g.core (replay (search_rules g.core) s.0) line size
+            (subst (λ (z : Reached). IsTooLarge g.core z line size) s.1.is (subst (λ core. IsTooLarge core (state_of v) line size) fits large)),
+      )
+
 -- ---- counts
 
 -- one strike was taken
@@ -87,15 +98,15 @@ some_left left some = omega (arith, some)
 
 -- a struck nogood leaves what is kept
 pub kept_struck : (v v' : Searching) (n : ℕ) → v' ≡ struck_by v n → IsKept v → IsKept v'
-kept_struck v v' n is k = subst (λ (z : Searching). IsKept z) (sym is) (record { bodies = k.bodies; placed = k.placed })
+kept_struck v v' n is k = subst (λ (z : Searching). IsKept z) (sym is) (record { ground = k.ground; bodies = k.bodies; noted = k.noted; placed = k.placed; looked = k.looked })
 
 -- so does a learned one
 pub kept_learned : (v v' : Searching) → v' ≡ learned_by v → IsKept v → IsKept v'
-kept_learned v v' is k = subst (λ (z : Searching). IsKept z) (sym is) (record { bodies = k.bodies; placed = k.placed })
+kept_learned v v' is k = subst (λ (z : Searching). IsKept z) (sym is) (record { ground = k.ground; bodies = k.bodies; noted = k.noted; placed = k.placed; looked = k.looked })
 
 -- a search that is ready keeps it
 pub kept_ready : (v : Searching) → IsReady v → IsKept v
-kept_ready v r = record { bodies = r.bodies; placed = r.placed }
+kept_ready v r = r.still.kept
 
 phase_jump : (ph : Phase) (n : ℕ) (ls : List Lit) → ((ph ≡ phase.Free) ⊎ (ph ≡ phase.MustLearn)) ⊎ ((ph ≡ phase.Found) × (¬ (ls ≡ []))) → (phase_learned ph n ls ≡ phase.MustStrike n) ⊎ ((phase_learned ph n ls ≡ phase.MustJump n) × (¬ (ls ≡ [])))
 phase_jump ph n ls (inl (inl e)) = inl (ap (λ z. phase_learned z n ls) e)
@@ -104,7 +115,7 @@ phase_jump ph n (l ∷ ls) (inl (inr e)) = inr (ap (λ z. phase_learned z n (l �
 phase_jump ph n ls (inr w) = inr (ap (λ z. phase_learned z n ls) w.0, w.1)
 
 may_phase : (v : Searching) (how : How) → MayLearnNow v how → ((v.phase ≡ phase.Free) ⊎ (v.phase ≡ phase.MustLearn)) ⊎ ((v.phase ≡ phase.Found) × (¬ (chosen v.stack ≡ [])))
-may_phase v Decisions m = elim m.1 [ inl e ↦ inl (inr e) | inr w ↦ inl (inl w.0) ]
+may_phase v Decisions m = elim m.1 [ inl e ↦ inl (inr e) | inr w ↦ inl (inl w.0.still.free) ]
 may_phase v Enumerated m = inr m.1
 may_phase v Rattle.search_theory.specs.Events.Analysed m = absurd m
 may_phase v Rattle.search_theory.specs.Events.Justified m = absurd m
@@ -142,11 +153,7 @@ firm_struck v v' n is grounded over = subst (λ (z : Searching). IsFirm z) (sym 
   | inr f ↦ f
 ])
 
--- the nogood just learned was struck, and is to be gone back to
-pub struck_jumps : (v v' : Searching) (n : ℕ) → v' ≡ struck_by v n → v.phase ≡ phase.MustStrike n → ¬ (v'.phase ≡ phase.Over) → (m : ℕ) × (v'.phase ≡ phase.MustJump m)
-struck_jumps v v' n is e over = (n, ap (λ (z : Searching). z.phase) is ∙ (λ i. phase_struck (e i) (not_root v v' n is over i)))
-
--- and then some literal is chosen
+-- where the nogood just learned was struck, some literal is chosen
 pub struck_some : (v v' : Searching) (n : ℕ) → v' ≡ struck_by v n → slice_get v.nogoods n ≡ Some (chosen_nogood v) → ¬ (v'.phase ≡ phase.Over) → ¬ (chosen v.stack ≡ [])
 struck_some v v' n is at over none =
     let lits : lits_at v.nogoods n ≡ [] = ap lits_in at ∙ none in
@@ -165,33 +172,41 @@ closed_level (e ∷ rest) h z = elim h.1 [
 -- no nogood is empty where an atom stays must-be-true
 pub firm_stuck : (v : Searching) → IsReady v → MoveIs v move.Stuck → IsFirm v
 firm_stuck v ready next = elim next.2 [
-  | inl closed ↦ elim ready.grounded [ inl z ↦ absurd (closed_level v.stack closed z) | inr f ↦ f ]
-  | inr idle ↦ (none_empty v.stack v.nogoods next.0.none_struck, bare_made v idle.none_due)
+  | inl closed ↦ elim ready.still.grounded [ inl z ↦ absurd (closed_level v.stack closed z) | inr f ↦ f ]
+  | inr idle ↦ (none_empty v.stack v.nogoods next.0.none_struck, bare_made v ready idle.none_due.none)
 ]
 
 -- nor where a set is found
-pub firm_full : (v : Searching) → MoveIs v move.Full → IsFirm v
-firm_full v next = (none_empty v.stack v.nogoods next.0.none_struck, bare_made v next.1.none_due)
+pub firm_full : (v : Searching) → IsReady v → MoveIs v move.Full → IsFirm v
+firm_full v ready next = (none_empty v.stack v.nogoods next.0.none_struck, bare_made v ready next.1.none_due.none)
 
 -- ---- the search goes on
 
 -- the search went back after the literals chosen were learned
-pub again : (v v1 v2 v' : Searching) → v1.program ≡ v.program → v1.stack ≡ v.stack → v1.nogoods ≡ v.nogoods → v2 ≡ learned_by v1 → v' ≡ gone_back v2 → ¬ (chosen v1.stack ≡ []) → IsFirm v1 → IsKept v1 → ids v1 < 2 ^ 32 → Again v v'
-again v v1 v2 v' program stack nogoods learned back some firm kept few =
+pub again : (v v1 v2 v' : Searching) → v1.core ≡ v.core → v1.stack ≡ v.stack → v1.nogoods ≡ v.nogoods → v2 ≡ learned_by v1 → v' ≡ gone_back v2 → ¬ (chosen v1.stack ≡ []) → IsFirm v1 → IsKept v1 → length v1.positives ≡ length v1.core.rules → ids v1 < 2 ^ 32 → Again v v'
+again v v1 v2 v' core stack nogoods learned back some firm kept all few =
     let is : v' ≡ gone_back (learned_by v1) = back ∙ ap gone_back learned in
     record {
-      program = ap (λ (z : Searching). z.program) is ∙ program;
+      core = ap (λ (z : Searching). z.core) is ∙ core;
       ready = subst (λ (z : Searching). IsReady z) (sym is) (record {
-        free = refl;
-        bodies = kept.bodies;
-        placed = λ e i. kept.placed e (back_among (jump_of v1.stack) v1.stack e i);
-        grounded = inr (
-          (λ ng i e. elim (∈-append_cases ng v1.nogoods (chosen_nogood v1 ∷ []) i) [
-            | inl j ↦ firm.0 ng j e
-            | inr j ↦ some (sym (ap (λ (z : Nogood). z.lits) (in_single j)) ∙ e)
-          ]),
-          firm.1,
-        );
+        still = record {
+          kept = record {
+            ground = kept.ground;
+            bodies = kept.bodies;
+            noted = kept.noted;
+            placed = λ e i. kept.placed e (back_among (jump_of v1.stack) v1.stack e i);
+            looked = kept.looked;
+          };
+          free = refl;
+          grounded = inr (
+            (λ ng i e. elim (∈-append_cases ng v1.nogoods (chosen_nogood v1 ∷ []) i) [
+              | inl j ↦ firm.0 ng j e
+              | inr j ↦ some (sym (ap (λ (z : Nogood). z.lits) (in_single j)) ∙ e)
+            ]),
+            firm.1,
+          );
+        };
+        all_looked = all;
       });
       learned = ap (λ (z : Searching). z.nogoods) is ∙ (λ i. nogoods i ++ record { lits = chosen (stack i); head = None } ∷ []);
       some = λ none. some (ap chosen stack ∙ none);
@@ -201,18 +216,18 @@ again v v1 v2 v' program stack nogoods learned back some firm kept few =
 -- ---- faults after a part of a round
 
 -- a fault after one strike
-pub fault_struck : (v v1 : Searching) (told told1 told' : Option outside.Journal) (rest before mid now : ℕ) (fault : SearchFault) → v1.program ≡ v.program → before ≤ mid → ¬ (rest ≡ 0)
+pub fault_struck : (v v1 : Searching) (told told1 told' : Option outside.Journal) (rest before mid now : ℕ) (fault : SearchFault) → v1.core ≡ v.core → before ≤ mid → ¬ (rest ≡ 0)
     → Carried v v1 told told1 1 → IsRoundFault v1 told1 told' (rest - 1) mid now fault → IsRoundFault v told told' rest before now fault
-fault_struck v v1 told told1 told' rest before mid now fault program later some carried f = record {
-  halts = λ g fits held left room s. f.halts g (fits_after g v v1 program fits) held left room (carried_less v v1 told told1 held left rest carried some g fits s);
+fault_struck v v1 told told1 told' rest before mid now fault core later some carried f = record {
+  halts = λ g fits held left room s. f.halts g (core ∙ fits) held left room (carried_less v v1 told told1 held left rest carried some g fits s);
   cause = cause_on before mid now fault later f.cause;
 }
 
 -- and after events that strike nothing
-pub fault_same : (v v1 : Searching) (told told1 told' : Option outside.Journal) (rest before mid now : ℕ) (fault : SearchFault) → v1.program ≡ v.program → before ≤ mid
+pub fault_same : (v v1 : Searching) (told told1 told' : Option outside.Journal) (rest before mid now : ℕ) (fault : SearchFault) → v1.core ≡ v.core → before ≤ mid
     → Carried v v1 told told1 0 → IsRoundFault v1 told1 told' rest mid now fault → IsRoundFault v told told' rest before now fault
-fault_same v v1 told told1 told' rest before mid now fault program later carried f = record {
-  halts = λ g fits held left room s. f.halts g (fits_after g v v1 program fits) held left room (carried_same v v1 told told1 held left rest carried g fits s);
+fault_same v v1 told told1 told' rest before mid now fault core later carried f = record {
+  halts = λ g fits held left room s. f.halts g (core ∙ fits) held left room (carried_same v v1 told told1 held left rest carried g fits s);
   cause = cause_on before mid now fault later f.cause;
 }
 
@@ -231,41 +246,41 @@ learned_at v l n e = elim l.phase_is [
 ]
 
 -- after going back the search is below the last literal chosen
-pub settled_back : (r : Result (Option Finish) SearchFault) (v v1 v2 : Searching) (told told1 told2 : Option outside.Journal) (rest rest' : ℕ) → v1.program ≡ v.program → gone_back v1 ≡ gone_back v → ¬ (chosen v.stack ≡ [])
+pub settled_back : (r : Result (Option Finish) SearchFault) (v v1 v2 : Searching) (told told1 told2 : Option outside.Journal) (rest rest' : ℕ) → v1.core ≡ v.core → gone_back v1 ≡ gone_back v → ¬ (chosen v.stack ≡ [])
     → ((held : Option (List ℕ)) (left : ℕ) → Carries v v1 told told1 held held (left, rest) (left, rest'))
     → IfOk r (λ end. end ≡ None) → OnOk r (v2 ≡ gone_back v1) → OnOk r (Carried v1 v2 told1 told2 0) → IfOk r (Settled v v2 told told2 rest rest')
-settled_back (Ok end) v v1 v2 told told1 told2 rest rest' program same some carries none back carried = subst (Settled v v2 told told2 rest rest') (sym none) (
+settled_back (Ok end) v v1 v2 told told1 told2 rest rest' core same some carries none back carried = subst (Settled v v2 told told2 rest rest') (sym none) (
   back ∙ same,
   some,
-  λ held left g fits s. carried_same v1 v2 told1 told2 held left rest' carried g (fits_after g v v1 program fits) (carries held left g fits s),
+  λ held left g fits s. carried_same v1 v2 told1 told2 held left rest' carried g (core ∙ fits) (carries held left g fits s),
 )
-settled_back (Err f) v v1 v2 told told1 told2 rest rest' program same some carries none back carried = tt
+settled_back (Err f) v v1 v2 told told1 told2 rest rest' core same some carries none back carried = tt
 
 -- after it was settled the search is ready again
-pub rounds_settled : (r : Result (Option Finish) SearchFault) (v v1 v2 v3 : Searching) (told told2 told3 : Option outside.Journal) (rest rest2 rest3 : ℕ) → v1.program ≡ v.program → v1.stack ≡ v.stack → v1.nogoods ≡ v.nogoods → v2 ≡ learned_by v1
-    → IsFirm v1 → IsKept v1 → ids v1 < 2 ^ 32 → ((held : Option (List ℕ)) (left : ℕ) → Carries v v2 told told2 held held (left, rest) (left, rest2))
+pub rounds_settled : (r : Result (Option Finish) SearchFault) (v v1 v2 v3 : Searching) (told told2 told3 : Option outside.Journal) (rest rest2 rest3 : ℕ) → v1.core ≡ v.core → v1.stack ≡ v.stack → v1.nogoods ≡ v.nogoods → v2 ≡ learned_by v1
+    → IsFirm v1 → IsKept v1 → length v1.positives ≡ length v1.core.rules → ids v1 < 2 ^ 32 → ((held : Option (List ℕ)) (left : ℕ) → Carries v v2 told told2 held held (left, rest) (left, rest2))
     → IfOk r (Settled v2 v3 told2 told3 rest2 rest3) → IfOk r (Rounds v v3 told told3 rest rest3)
-rounds_settled (Ok None) v v1 v2 v3 told told2 told3 rest rest2 rest3 program stack nogoods learned firm kept few carries p =
-    let same : v2.program ≡ v.program = ap (λ (z : Searching). z.program) learned ∙ program in (
-      again v v1 v2 v3 program stack nogoods learned p.0 (λ none. p.1 (ap (λ (z : Searching). chosen z.stack) learned ∙ none)) firm kept few,
-      λ held left g fits s. p.2 held left g (fits_after g v v2 same fits) (carries held left g fits s),
+rounds_settled (Ok None) v v1 v2 v3 told told2 told3 rest rest2 rest3 core stack nogoods learned firm kept all few carries p =
+    let same : v2.core ≡ v.core = ap (λ (z : Searching). z.core) learned ∙ core in (
+      again v v1 v2 v3 core stack nogoods learned p.0 (λ none. p.1 (ap (λ (z : Searching). chosen z.stack) learned ∙ none)) firm kept all few,
+      λ held left g fits s. p.2 held left g (same ∙ fits) (carries held left g fits s),
     )
-rounds_settled (Ok (Some how)) v v1 v2 v3 told told2 told3 rest rest2 rest3 program stack nogoods learned firm kept few carries p =
-    let same : v2.program ≡ v.program = ap (λ (z : Searching). z.program) learned ∙ program in
-    λ held left g fits room s. p held left g (fits_after g v v2 same fits) room (carries held left g fits s)
-rounds_settled (Err f) v v1 v2 v3 told told2 told3 rest rest2 rest3 program stack nogoods learned firm kept few carries p = tt
+rounds_settled (Ok (Some how)) v v1 v2 v3 told told2 told3 rest rest2 rest3 core stack nogoods learned firm kept all few carries p =
+    let same : v2.core ≡ v.core = ap (λ (z : Searching). z.core) learned ∙ core in
+    λ held left g fits room s. p held left g (same ∙ fits) room (carries held left g fits s)
+rounds_settled (Err f) v v1 v2 v3 told told2 told3 rest rest2 rest3 core stack nogoods learned firm kept all few carries p = tt
 
 -- so it is after a set
-pub outcome_back : (r : Result (Option Finish) SearchFault) (v v2 v3 : Searching) (told told2 told3 : Option outside.Journal) (left : ℕ) → v2 ≡ learned_by v → IsFirm v → IsKept v → ids v < 2 ^ 32 → ¬ (chosen v.stack ≡ []) → ¬ (left ≡ 0)
+pub outcome_back : (r : Result (Option Finish) SearchFault) (v v2 v3 : Searching) (told told2 told3 : Option outside.Journal) (left : ℕ) → v2 ≡ learned_by v → IsFirm v → IsKept v → length v.positives ≡ length v.core.rules → ids v < 2 ^ 32 → ¬ (chosen v.stack ≡ []) → ¬ (left ≡ 0)
     → Carried v v2 told told2 0 → IfOk r (λ end. end ≡ None) → OnOk r (v3 ≡ gone_back v2) → OnOk r (Carried v2 v3 told2 told3 0)
     → IfOk r (λ end. (held : Option (List ℕ)) (rest : ℕ) → Outcome v v3 told told3 held held (left, rest) (left, rest) end)
-outcome_back (Ok end) v v2 v3 told told2 told3 left learned firm kept few some room carried none back carried' =
+outcome_back (Ok end) v v2 v3 told told2 told3 left learned firm kept all few some room carried none back carried' =
     subst (λ end. (held : Option (List ℕ)) (rest : ℕ) → Outcome v v3 told told3 held held (left, rest) (left, rest) end) (sym none) (λ held rest. (
-      again v v v2 v3 refl refl refl learned back some firm kept few,
+      again v v v2 v3 refl refl refl learned back some firm kept all few,
       omega (arith, room),
-      λ g fits s. carried_same v2 v3 told2 told3 held left rest carried' g (fits_after g v v2 (ap (λ (z : Searching). z.program) learned) fits) (carried_same v v2 told told2 held left rest carried g fits s),
+      λ g fits s. carried_same v2 v3 told2 told3 held left rest carried' g (ap (λ (z : Searching). z.core) learned ∙ fits) (carried_same v v2 told told2 held left rest carried g fits s),
     ))
-outcome_back (Err f) v v2 v3 told told2 told3 left learned firm kept few some room carried none back carried' = tt
+outcome_back (Err f) v v2 v3 told told2 told3 left learned firm kept all few some room carried none back carried' = tt
 
 -- ---- whether a literal is chosen
 
@@ -304,11 +319,11 @@ module _ (v v1 : Searching) (told told1 : Option outside.Journal) (held held1 : 
   shown_outcome (Ok None) v' told' left rest room p =
       let w = p held1 rest in
       let a : Again (record v { phase = phase.Found }) v' = subst (λ (z : Searching). Again z v') is w.0 in (
-        record { program = a.program; ready = a.ready; learned = a.learned; some = a.some; low = a.low },
+        record { core = a.core; ready = a.ready; learned = a.learned; some = a.some; low = a.low },
         w.1,
-        λ g fits s. w.2 g (fits_after g v v1 (ap (λ (z : Searching). z.program) is) fits) (shown_less left rest room g fits s),
+        λ g fits s. w.2 g (ap (λ (z : Searching). z.core) is ∙ fits) (shown_less left rest room g fits s),
       )
-  shown_outcome (Ok (Some how)) v' told' left rest room p = λ g fits s. p held1 rest g (fits_after g v v1 (ap (λ (z : Searching). z.program) is) fits) (shown_less left rest room g fits s)
+  shown_outcome (Ok (Some how)) v' told' left rest room p = λ g fits s. p held1 rest g (ap (λ (z : Searching). z.core) is ∙ fits) (shown_less left rest room g fits s)
   shown_outcome (Err f) v' told' left rest room p = tt
 
   -- or there was a fault
@@ -316,8 +331,13 @@ module _ (v v1 : Searching) (told told1 : Option outside.Journal) (held held1 : 
       → (g : standing.Given) → Fits g v → Stands g v told held left rest → Leaves g told' held1 sink (before, now) fault
   shown_fault told' left rest before mid now sink fault room later f g fits s =
       let h = f.1 rest in
-      leaves_fault v1 told1 told' rest before now sink fault (record { halts = h.halts; cause = cause_on before mid now fault later h.cause }) g (fits_after g v v1 (ap (λ (z : Searching). z.program) is) fits) held1 (left - 1) f.0 (shown_less left rest room g fits s)
+      leaves_fault v1 told1 told' rest before now sink fault (record { halts = h.halts; cause = cause_on before mid now fault later h.cause }) g (ap (λ (z : Searching). z.core) is ∙ fits) held1 (left - 1) f.0 (shown_less left rest room g fits s)
 
   -- the search has found a set
   pub is_found : IsReady v → MoveIs v move.Full → IsFound v1
-  is_found ready next = subst (λ (z : Searching). IsFound z) (sym is) (record { kept = record { bodies = ready.bodies; placed = ready.placed }; firm = firm_full v next; phase_is = refl })
+  is_found ready next = subst (λ (z : Searching). IsFound z) (sym is) (record {
+    kept = record { ground = ready.still.kept.ground; bodies = ready.still.kept.bodies; noted = ready.still.kept.noted; placed = ready.still.kept.placed; looked = ready.still.kept.looked };
+    all_looked = ready.all_looked;
+    firm = firm_full v ready next;
+    phase_is = refl;
+  })

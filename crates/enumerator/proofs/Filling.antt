@@ -3,14 +3,13 @@ use Rattle.std.proofs.Common.{◌≡◌, ℕ, ◌⊎◌, Bool, true, false, not,
 use Rattle.std.specs.Prelude.{Option, Some, None, slice_get, nat_eq}
 use Rattle.lists.specs.Lists.{◌∈◌}
 use Rattle.lists.proofs.ListLemmas.{∈-append_left, ∈-append_right}
-use Rattle.asp_meaning.specs.Atoms.{Atom}
 use Rattle.alpha_outside.specs.declared.literal.Value.{Value}
 use Rattle.alpha_outside.specs.declared.literal.Value.TheVariants.{True, MustBe, False}
 use Rattle.alpha_outside.specs.declared.literal.Lit.{Lit}
 use Rattle.search_theory.specs.declared.entry.Entry.{Entry}
 use Rattle.search_theory.specs.Values.{is_up, lit, value_of, Holds}
 use Rattle.search_theory.specs.Nogoods.{Nogood}
-use Rattle.search_theory.specs.Instances.{Kind, Plain, Choice, Constraint, Instance}
+use Rattle.search_theory.specs.Instances.{Kind, Plain, Choice, Constraint, Instance, Rules}
 use Rattle.search_theory.specs.Tables.{Made, BodyFits, lits_of, once, set_of, each_with, with_body, table_of}
 use Rattle.search_theory.specs.States.{AtomNode, Named, BodyOf, IsName, IsSettled, IsFull}
 use Rattle.search_theory.proofs.Basics.{get_in, value_cases, nat_eq-true}
@@ -18,7 +17,9 @@ use Rattle.search_theory.proofs.Tables.{nogood, Clash, set_of-or_clash}
 use Rattle.search_theory.proofs.Stack.{Good}
 use Rattle.search_theory.proofs.Meaning.{OfAtom, OfBody, Known}
 use Rattle.search_theory.proofs.Central.{GoodMade, Valid, names_in}
-use Rattle.enumerator.specs.Journals.{Core, Reached}
+use Rattle.core_meaning.specs.Atoms.{GroundAtom}
+use Rattle.search_rules.specs.Tests.{Maker}
+use Rattle.search_rules.specs.Rules.{Numbers, Reached}
 
 -- two literals of different atoms both stand
 once_pair : (x p : ℕ) (up : Bool) → ¬ (x ≡ p) → once (lit x true ∷ lit p up ∷ []) ≡ lit x true ∷ lit p up ∷ []
@@ -28,12 +29,12 @@ once_pair x p up differ = go (nat_eq x p) refl
     go true e = absurd (differ (nat_eq-true x p e))
     go false e = ap (λ z. lit x true ∷ cond (z && ((true && up) || (false && not up))) [] (lit p up ∷ [])) e
 
-module _ (core : Core) (s : Reached) (valid : Valid core s) (settled : IsSettled core s)
-    (must : (x : ℕ) (a : Atom) → IsName s x a → ¬ (value_of s.stack x ≡ Some MustBe))
-    (free : (x : ℕ) (a : Atom) → IsName s x a → ¬ (value_of s.stack x ≡ None))
-    (bodies : (x j : ℕ) → slice_get s.names x ≡ Some (BodyOf j) → (k : Made ℕ) × (slice_get s.made j ≡ Some k) × (k.body ≡ Some x)) where
+module _ (rules : Rules Numbers GroundAtom Maker) (s : Reached) (valid : Valid rules s) (settled : IsSettled rules s)
+    (must : (x : ℕ) (a : GroundAtom) → IsName s x a → ¬ (value_of s.stack x ≡ Some MustBe))
+    (free : (x : ℕ) (a : GroundAtom) → IsName s x a → ¬ (value_of s.stack x ≡ None))
+    (bodies : (x j : ℕ) → slice_get s.names x ≡ Some (BodyOf j) → (k : Made Maker) × (slice_get s.made j ≡ Some k) × (k.body ≡ Some x)) where
   -- a named atom is true or false
-  named_value : (x : ℕ) (a : Atom) → IsName s x a → (value_of s.stack x ≡ Some True) ⊎ (value_of s.stack x ≡ Some False)
+  named_value : (x : ℕ) (a : GroundAtom) → IsName s x a → (value_of s.stack x ≡ Some True) ⊎ (value_of s.stack x ≡ Some False)
   named_value x a n = go (value_of s.stack x) refl
     where
       go : (v : Option Value) → value_of s.stack x ≡ v → (value_of s.stack x ≡ Some True) ⊎ (value_of s.stack x ≡ Some False)
@@ -118,22 +119,22 @@ module _ (core : Core) (s : Reached) (valid : Valid core s) (settled : IsSettled
     ]
   ]
     where
-      b : (k : Made ℕ) × (slice_get s.made j ≡ Some k) × (k.body ≡ Some x)
+      b : (k : Made Maker) × (slice_get s.made j ≡ Some k) × (k.body ≡ Some x)
       b = bodies x j n
 
-      k : Made ℕ
+      k : Made Maker
       k = b.0
 
       among : (k ∈ s.made)
       among = get_in s.made j k b.1
 
-      g : GoodMade core s k
+      g : GoodMade rules s k
       g = valid.made k among
 
-      pos_named : (p : ℕ) → (p ∈ k.inst.pos) → (a : Atom) × IsName s p a
+      pos_named : (p : ℕ) → (p ∈ k.inst.pos) → (a : GroundAtom) × IsName s p a
       pos_named p i = let r = names_in s.names k.inst.pos g.inst.pos g.denotes.pos p i in (r.0, r.2)
 
-      neg_named : (p : ℕ) → (p ∈ k.inst.neg) → (a : Atom) × IsName s p a
+      neg_named : (p : ℕ) → (p ∈ k.inst.neg) → (a : GroundAtom) × IsName s p a
       neg_named p i = let r = names_in s.names k.inst.neg g.inst.neg g.denotes.neg p i in (r.0, r.2)
 
       pos_or : ((y : ℕ) → (y ∈ k.inst.pos) → value_of s.stack y ≡ Some True) ⊎ ((y : ℕ) × (y ∈ k.inst.pos) × (value_of s.stack y ≡ Some False))
@@ -146,16 +147,16 @@ module _ (core : Core) (s : Reached) (valid : Valid core s) (settled : IsSettled
       each p up (inl w) ng i = inl (in_each x false k.inst.pos p w.1 ng (subst (λ z. (ng ∈ (set_of None (lit x true ∷ lit p z ∷ [])))) w.0 i))
       each p up (inr w) ng i = inr (in_each x true k.inst.neg p w.1 ng (subst (λ z. (ng ∈ (set_of None (lit x true ∷ lit p z ∷ [])))) w.0 i))
 
-      differs : (p : ℕ) → (a : Atom) × IsName s p a → x ≡ p → ⊥
+      differs : (p : ℕ) → (a : GroundAtom) × IsName s p a → x ≡ p → ⊥
       differs p w e = let bad : Some (BodyOf j) ≡ Some (Named w.0) = sym n ∙ ap (slice_get s.names) e ∙ w.1 in cc
 
-      stored_by : (p : ℕ) (up : Bool) → ((up ≡ false) × (p ∈ k.inst.pos)) ⊎ ((up ≡ true) × (p ∈ k.inst.neg)) → (a : Atom) × IsName s p a → (nogood None (lit x true ∷ lit p up ∷ []) ∈ s.nogoods)
+      stored_by : (p : ℕ) (up : Bool) → ((up ≡ false) × (p ∈ k.inst.pos)) ⊎ ((up ≡ true) × (p ∈ k.inst.neg)) → (a : GroundAtom) × IsName s p a → (nogood None (lit x true ∷ lit p up ∷ []) ∈ s.nogoods)
       stored_by p up i w = elim (set_of-or_clash None (lit x true ∷ lit p up ∷ [])) [
         | inl m ↦ subst (λ (ls : List Lit). nogood None ls ∈ s.nogoods) (once_pair x p up (differs p w)) (g.stored (nogood None (once (lit x true ∷ lit p up ∷ []))) (in_table k.inst.kind k.body k.inst x b.2 g.fits _ (each p up i _ m)))
         | inr c ↦ absurd (no_clash x p up (differs p w) c)
       ]
 
-      stored : (p : ℕ) (up : Bool) → ((p ∈ k.inst.pos) × (up ≡ false)) ⊎ ((p ∈ k.inst.neg) × (up ≡ true)) → (a : Atom) × IsName s p a → (nogood None (lit x true ∷ lit p up ∷ []) ∈ s.nogoods)
+      stored : (p : ℕ) (up : Bool) → ((p ∈ k.inst.pos) × (up ≡ false)) ⊎ ((p ∈ k.inst.neg) × (up ≡ true)) → (a : GroundAtom) × IsName s p a → (nogood None (lit x true ∷ lit p up ∷ []) ∈ s.nogoods)
       stored p up (inl w) n' = stored_by p up (inl (w.1, w.0)) n'
       stored p up (inr w) n' = stored_by p up (inr (w.1, w.0)) n'
 
@@ -165,7 +166,7 @@ module _ (core : Core) (s : Reached) (valid : Valid core s) (settled : IsSettled
       active at af (Some True) e = inl e
       active at af (Some False) e = inr e
 
-  named_node : (x : ℕ) (n : AtomNode Atom) → slice_get s.names x ≡ Some n → (value_of s.stack x ≡ Some True) ⊎ (value_of s.stack x ≡ Some False)
+  named_node : (x : ℕ) (n : AtomNode GroundAtom) → slice_get s.names x ≡ Some n → (value_of s.stack x ≡ Some True) ⊎ (value_of s.stack x ≡ Some False)
   named_node x (Named a) e = named_value x a e
   named_node x (BodyOf j) e = body_value x j e
 
@@ -173,7 +174,7 @@ module _ (core : Core) (s : Reached) (valid : Valid core s) (settled : IsSettled
   some_value x (inl e) = (True, e)
   some_value x (inr e) = (False, e)
 
-  valued_known : (stack : List Entry) → Good core s stack → (x : ℕ) (v : Value) → value_of stack x ≡ Some v → Known s x
+  valued_known : (stack : List Entry) → Good rules s stack → (x : ℕ) (v : Value) → value_of stack x ≡ Some v → Known s x
   valued_known [] g x v e = cc
   valued_known (y ∷ rest) g x v e = elim (value_cases y rest x) [
     | inl c ↦ subst (λ z. Known s z) c.0 g.0.known
@@ -188,7 +189,7 @@ module _ (core : Core) (s : Reached) (valid : Valid core s) (settled : IsSettled
   at_node x e (OfAtom a, h) = must x a h e
   at_node x e (OfBody i, h) = not_both x e (body_value x h.number h.node)
 
-  pub full_of : IsFull core s
+  pub full_of : IsFull rules s
   full_of = record {
     all_valued = λ x n e. some_value x (named_node x n e);
     none_must_be = λ x e. at_node x e (valued_known s.stack valid.good x MustBe e);

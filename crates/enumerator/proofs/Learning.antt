@@ -14,8 +14,8 @@ use Rattle.search_theory.specs.declared.entry.Entry.{Entry}
 use Rattle.search_theory.specs.Values.{is_up, lit, value_of, opened, level_of, back_to, chosen_with, chosen, HasClosed, MustSinceClosed, Holds}
 use Rattle.search_theory.specs.Nogoods.{Nogood, IsStruck, IsLeft, Gives, Rises}
 use Rattle.search_theory.specs.States as phase
-use Rattle.search_theory.specs.States.{State, IsName, IsStuck}
-use Rattle.search_theory.specs.Events.{How, Decisions, Enumerated, Analysed, Justified, Strike, Learn, Back, happens, Allowed, MayLearn, IsNew, IsUnitAt}
+use Rattle.search_theory.specs.States.{State, IsName, IsSettled, IsStuck}
+use Rattle.search_theory.specs.Events.{How, Decisions, Enumerated, Analysed, Justified, Strike, Learn, Back, happens, Allowed, MayLearn, IsNew, IsUnitAt, phase_learned}
 use Rattle.search_theory.specs.Journals.{replay}
 use Rattle.search_theory.specs.Laws.{NoneEmpty}
 use Rattle.search_theory.proofs.Events.{legal_safe}
@@ -26,36 +26,39 @@ use Rattle.search_theory.proofs.Since.{must_be_is_since_closed}
 use Rattle.search_theory.proofs.Stack.{Good}
 use Rattle.search_theory.proofs.Central.{Valid}
 use Rattle.ground_search.specs.Searching.{Searching, state_of, jump_of, jump_by}
-use Rattle.enumerator.specs.Journals.{Core, Step, Reached}
+use Rattle.core_rules.specs.declared.rules.Core.{Core}
+use Rattle.core_meaning.specs.Atoms.{GroundAtom}
+use Rattle.search_rules.specs.Rules.{Reached, search_rules}
+use Rattle.enumerator.specs.Journals.{Step}
 use Rattle.enumerator.specs.Standing as standing
 use Rattle.enumerator.specs.Standing.{Stands, StandsAt, Fits, IsFirm, IsReady, IsGrounded, unlisted}
 use Rattle.enumerator.specs.Moves.{MoveIs}
 use Rattle.enumerator.specs.declared.moves.Move.TheVariants as move
 use Rattle.enumerator.specs.Settling.{MayStrikeNow, MayLearnNow, struck_by, learned_by, gone_back, Carried}
 use Rattle.enumerator.proofs.Standing.{stands_on}
-use Rattle.enumerator.proofs.Allowing.{named_at, settled}
+use Rattle.enumerator.proofs.Allowing.{settled}
+use Rattle.enumerator.proofs.Choosing.{jump_low}
 use Rattle.enumerator.proofs.Unlisted.{stuck_on}
-use Rattle.enumerator.proofs.Stepping.{once_at}
 
 -- ---- what the journal tells
 
 -- what is known of the state that a legal journal leads to
 pub record Told (core : Core) (s : Reached) : Type 0 where
-  pub valid : Valid core s
+  pub valid : Valid (search_rules core) s
   pub bodies : ChosenAreBodies s
   pub newly : NewlyChosen s
   pub leads : PhaseLeads s s.phase
 
 -- so it is of the search's state
-pub told_at : (g : standing.Given) (v : Searching) (told : Option outside.Journal) (held : Option (List ℕ)) (left rest : ℕ) (journal : List Step) → StandsAt g v told held left rest journal → Told g.core (replay g.core journal)
+pub told_at : (g : standing.Given) (v : Searching) (told : Option outside.Journal) (held : Option (List ℕ)) (left rest : ℕ) (journal : List Step) → StandsAt g v told held left rest journal → Told g.core (replay (search_rules g.core) journal)
 told_at g v told held left rest journal at =
-    let newly = legal_newly g.core [] journal at.legal in
-    record { valid = (legal_safe g.core [] journal at.legal).valid; bodies = newly.0; newly = newly.1; leads = legal_leads g.core [] journal at.legal }
+    let newly = legal_newly (search_rules g.core) [] journal at.legal in
+    record { valid = (legal_safe (search_rules g.core) [] journal at.legal).valid; bodies = newly.0; newly = newly.1; leads = legal_leads (search_rules g.core) [] journal at.legal }
 
 module _ (core : Core) (s : Reached) (known : Told core s) where
   -- the literals chosen hold
   pub chosen_hold : (l : Lit) → l ∈ chosen s.stack → Holds s.stack l
-  chosen_hold = chosen_holds core s known.valid known.bodies known.newly s.stack known.valid.good
+  chosen_hold = chosen_holds (search_rules core) s known.valid known.bodies known.newly s.stack known.valid.good
 
   abbrev learnt : List Lit → Nogood
   learnt ls = record { lits = ls; head = None }
@@ -63,24 +66,24 @@ module _ (core : Core) (s : Reached) (known : Told core s) where
   skips : (e : Entry) (rest : List Entry) (ls : List Lit) (l : ℕ) → l < level_of rest → (left : Lit) × IsLeft (back_to l rest) (learnt ls) left → (left : Lit) × IsLeft (back_to l (e ∷ rest)) (learnt ls) left
   skips e rest ls l low j = (j.0, subst (λ st. IsLeft st (learnt ls) j.0) (sym (back_above l e rest (omega (arith, low)))) j.1)
 
-  last : (e : Entry) (rest : List Entry) → Good core s rest → value_of rest e.atom ≡ None → opened e.why ≡ 1 → (left : Lit) × IsLeft (back_to (level_of rest) (e ∷ rest)) (learnt (lit e.atom (is_up e.value) ∷ chosen rest)) left
+  last : (e : Entry) (rest : List Entry) → Good (search_rules core) s rest → value_of rest e.atom ≡ None → opened e.why ≡ 1 → (left : Lit) × IsLeft (back_to (level_of rest) (e ∷ rest)) (learnt (lit e.atom (is_up e.value) ∷ chosen rest)) left
   last e rest g free one =
       let same : back_to (level_of rest) (e ∷ rest) ≡ rest = back_above (level_of rest) e rest (omega (arith, one)) ∙ back_here rest in (
         lit e.atom (is_up e.value),
         subst (λ st. IsLeft st (learnt (lit e.atom (is_up e.value) ∷ chosen rest)) (lit e.atom (is_up e.value))) (sym same) (record {
           among = inl refl;
           unassigned = free;
-          others = λ l i. elim i [ inl q ↦ inl q | inr j ↦ inr (chosen_holds core s known.valid known.bodies known.newly rest g l j) ];
+          others = λ l i. elim i [ inl q ↦ inl q | inr j ↦ inr (chosen_holds (search_rules core) s known.valid known.bodies known.newly rest g l j) ];
         }),
       )
 
   -- below the last of the literals chosen their nogood has just that one left
-  left_at : (stack : List Entry) → Good core s stack → (¬ (chosen stack ≡ [])) → (left : Lit) × IsLeft (back_to (jump_of stack) stack) (learnt (chosen stack)) left
+  left_at : (stack : List Entry) → Good (search_rules core) s stack → (¬ (chosen stack ≡ [])) → (left : Lit) × IsLeft (back_to (jump_of stack) stack) (learnt (chosen stack)) left
   left_at [] g n = absurd (n refl)
   left_at (e ∷ rest) g n = go e.why refl (value_of rest e.atom) refl (left_at rest g.1) n
     where
       low : ¬ (chosen rest ≡ []) → jump_of rest < level_of rest
-      low = Rattle.enumerator.proofs.Choosing.jump_low rest
+      low = jump_low rest
 
       go : (w : Why) → e.why ≡ w → (v : Option Value) → value_of rest e.atom ≡ v → (¬ (chosen rest ≡ []) → (left : Lit) × IsLeft (back_to (jump_of rest) rest) (learnt (chosen rest)) left)
           → ¬ (chosen_with w v (lit e.atom (is_up e.value)) (chosen rest) ≡ [])
@@ -111,23 +114,23 @@ module _ (g : standing.Given) (v : Searching) (told : Option outside.Journal) (h
   pub learned_struck : (n : ℕ) → v.phase ≡ phase.MustStrike n → (ng : Nogood) × (slice_get v.nogoods n ≡ Some ng) × IsStruck v.stack ng
   learned_struck n e =
       let known = told_at g v told held left rest journal at in
-      let leads : PhaseLeads (replay g.core journal) (phase.MustStrike n) = subst (λ z. PhaseLeads (replay g.core journal) z) (sym (ap (λ (s : Reached). s.phase) at.is) ∙ e) known.leads in
+      let leads : PhaseLeads (replay (search_rules g.core) journal) (phase.MustStrike n) = subst (λ z. PhaseLeads (replay (search_rules g.core) journal) z) (sym (ap (λ (s : Reached). s.phase) at.is) ∙ e) known.leads in
       subst (λ (s : Reached). (ng : Nogood) × (slice_get s.nogoods n ≡ Some ng) × IsStruck s.stack ng) (sym at.is)
-      (record { lits = chosen (State.stack (replay g.core journal)); head = None }, leads, (λ l i. chosen_hold g.core (replay g.core journal) known l i))
+      (record { lits = chosen (State.stack (replay (search_rules g.core) journal)); head = None }, leads, (λ l i. chosen_hold g.core (replay (search_rules g.core) journal) known l i))
 
   -- the nogood may be struck
-  pub may_strike : (n : ℕ) → MayStrikeNow v n → Allowed g.core [] (state_of v) (Strike n)
+  pub may_strike : (n : ℕ) → MayStrikeNow v n → Allowed (search_rules g.core) [] (state_of v) (Strike n)
   may_strike n (inl found) = (inl found.0, found.1)
   may_strike n (inr e) = (inr e, learned_struck n e)
 
   -- the literals chosen may be learned
-  pub may_learn : (how : How) → Fits g v → MayLearnNow v how → Allowed g.core [] (state_of v) (Learn how (chosen v.stack))
+  pub may_learn : (how : How) → Fits g v → MayLearnNow v how → Allowed (search_rules g.core) [] (state_of v) (Learn how (chosen v.stack))
   may_learn how fits may =
       let learn = may_be how may in
-      let some : NoneEmpty (State.nogoods (replay g.core journal)) = subst (λ (s : Reached). NoneEmpty s.nogoods) at.is (firm how may).0 in (
+      let some : NoneEmpty (State.nogoods (replay (search_rules g.core) journal)) = subst (λ (s : Reached). NoneEmpty s.nogoods) at.is (firm how may).0 in (
         learn,
         subst (λ (s : Reached). IsNew s.nogoods (chosen s.stack)) (sym at.is)
-            (learned_is_new g.core [] journal at.legal some how (chosen (State.stack (replay g.core journal))) (on how (subst (λ (s : Reached). MayLearn g.core s how (chosen s.stack)) at.is learn))),
+            (learned_is_new (search_rules g.core) [] journal at.legal some how (chosen (State.stack (replay (search_rules g.core) journal))) (on how (subst (λ (s : Reached). MayLearn (search_rules g.core) s how (chosen s.stack)) at.is learn))),
       )
     where
       firm : (how : How) → MayLearnNow v how → IsFirm v
@@ -136,47 +139,50 @@ module _ (g : standing.Given) (v : Searching) (told : Option outside.Journal) (h
       firm Analysed m = absurd m
       firm Justified m = absurd m
 
-      on : (how : How) → MayLearn g.core (unlisted (replay g.core journal)) how (chosen (State.stack (replay g.core journal))) → MayLearn g.core (replay g.core journal) how (chosen (State.stack (replay g.core journal)))
-      on Decisions m = (m.0, elim m.1 [ inl e ↦ inl e | inr w ↦ inr (w.0, (w.1.0, stuck_on g.core (replay g.core journal) w.1.0 w.1.1)) ])
+      on : (how : How) → MayLearn (search_rules g.core) (unlisted (replay (search_rules g.core) journal)) how (chosen (State.stack (replay (search_rules g.core) journal))) → MayLearn (search_rules g.core) (replay (search_rules g.core) journal) how (chosen (State.stack (replay (search_rules g.core) journal)))
+      on Decisions m = (m.0, elim m.1 [ inl e ↦ inl e | inr w ↦ inr (w.0, (w.1.0, stuck_on (search_rules g.core) (replay (search_rules g.core) journal) w.1.0 w.1.1)) ])
       on Enumerated m = m
       on Analysed m = absurd m
       on Justified m = absurd m
 
-      since : (x : ℕ) → x < length v.program.names → value_of v.stack x ≡ Some MustBe → HasClosed v.stack → MustSinceClosed v.stack x
-      since x low must closed = subst (λ (s : Reached). MustSinceClosed s.stack x) (sym at.is)
-          (must_be_is_since_closed g.core [] journal at.legal x (Rattle.plain_program.specs.Programs.atom_at v.program.names x)
-          (subst (λ (s : Reached). IsName s x (Rattle.plain_program.specs.Programs.atom_at v.program.names x)) at.is (named_at g.core v fits.0 x low))
+      since : (x : ℕ) (a : GroundAtom) → IsName (state_of v) x a → value_of v.stack x ≡ Some MustBe → HasClosed v.stack → MustSinceClosed v.stack x
+      since x a name must closed = subst (λ (s : Reached). MustSinceClosed s.stack x) (sym at.is)
+          (must_be_is_since_closed (search_rules g.core) [] journal at.legal x a
+          (subst (λ (s : Reached). IsName s x a) at.is name)
           (subst (λ (s : Reached). value_of s.stack x ≡ Some MustBe) at.is must)
           (subst (λ (s : Reached). HasClosed s.stack) at.is closed))
 
-      stuck : MoveIs v move.Stuck → (x : ℕ) × IsStuck g.core (state_of v) x
-      stuck next = (
+      once : (x y : ℕ) (a : GroundAtom) → IsName (state_of v) x a → IsName (state_of v) y a → x ≡ y
+      once = subst (λ (s : Reached). (x y : ℕ) (a : GroundAtom) → IsName s x a → IsName s y a → x ≡ y) (sym at.is) (legal_safe (search_rules g.core) [] journal at.legal).valid.once
+
+      stuck : IsReady v → MoveIs v move.Stuck → (x : ℕ) × IsStuck (search_rules g.core) (state_of v) x
+      stuck ready next = (
         next.1.0,
         record {
-          named = (Rattle.plain_program.specs.Programs.atom_at v.program.names next.1.0, named_at g.core v fits.0 next.1.0 next.1.1);
+          named = next.1.1;
           must_be = next.1.2;
           none_struck = next.0.none_struck;
           none_unit = next.0.none_unit;
           why = elim next.2 [
-            | inl closed ↦ inr (since next.1.0 next.1.1 next.1.2 closed)
-            | inr idle ↦ inl (settled g.core v fits.0 (once_at g v told held left rest journal at) next.0 idle)
+            | inl closed ↦ inr (since next.1.0 next.1.1.0 next.1.1.1 next.1.2 closed)
+            | inr idle ↦ inl (subst (λ core. IsSettled (search_rules core) (state_of v)) fits (settled v ready once next.0 idle))
           ];
         },
       )
 
-      may_be : (how : How) → MayLearnNow v how → MayLearn g.core (state_of v) how (chosen v.stack)
-      may_be Decisions m = (refl, elim m.1 [ inl e ↦ inl e | inr w ↦ inr (w.0, stuck w.1) ])
+      may_be : (how : How) → MayLearnNow v how → MayLearn (search_rules g.core) (state_of v) how (chosen v.stack)
+      may_be Decisions m = (refl, elim m.1 [ inl e ↦ inl e | inr w ↦ inr (w.0.still.free, stuck w.0 w.1) ])
       may_be Enumerated m = (refl, m.1.0, m.1.1)
       may_be Analysed m = absurd m
       may_be Justified m = absurd m
 
   -- the search may go back
-  pub may_back : (n : ℕ) → v.phase ≡ phase.MustJump n → ¬ (chosen v.stack ≡ []) → Allowed g.core [] (state_of v) (Back (jump_of v.stack))
+  pub may_back : (n : ℕ) → v.phase ≡ phase.MustJump n → ¬ (chosen v.stack ≡ []) → Allowed (search_rules g.core) [] (state_of v) (Back (jump_of v.stack))
   may_back n e some =
       let known = told_at g v told held left rest journal at in
-      let r = replay g.core journal in
+      let r = replay (search_rules g.core) journal in
       let leads : PhaseLeads r (phase.MustJump n) = subst (λ z. PhaseLeads r z) (sym (ap (λ (s : Reached). s.phase) at.is) ∙ e) known.leads in (
-        Rattle.enumerator.proofs.Choosing.jump_low v.stack some,
+        jump_low v.stack some,
         (
           n,
           e,
@@ -210,10 +216,10 @@ pub carried_back : (v v' : Searching) (told told' : Option outside.Journal) (lev
 carried_back v v' told told' level n e some level_is is t held left rest g fits s = (
   Back level ∷ s.0,
   stands_on g v v' told told' held left (rest + 0) rest s.0 s.1 (Back level) (say.Back level) tt
-      (subst (λ z. Allowed g.core [] (state_of v) (Back z)) (sym level_is) (may_back g v told held left (rest + 0) s.0 s.1 n e some)) refl
-      (ap state_of is ∙ ap (λ z. unlisted (happens g.core (state_of v) (Back z))) (sym level_is)) t (let k = s.1.strikes_left in omega (arith, k)),
+      (subst (λ z. Allowed (search_rules g.core) [] (state_of v) (Back z)) (sym level_is) (may_back g v told held left (rest + 0) s.0 s.1 n e some)) refl
+      (ap state_of is ∙ ap (λ z. unlisted (happens (search_rules g.core) (state_of v) (Back z))) (sym level_is)) t (let k = s.1.strikes_left in omega (arith, k)),
 )
 
 -- the search after some literals were learned
 abbrev pub learned_with : Searching → List Lit → Searching
-learned_with v ls = record v { nogoods = v.nogoods ++ record { lits = ls; head = None } ∷ []; phase = Rattle.search_theory.specs.Events.phase_learned v.phase (length v.nogoods) ls }
+learned_with v ls = record v { nogoods = v.nogoods ++ record { lits = ls; head = None } ∷ []; phase = phase_learned v.phase (length v.nogoods) ls }

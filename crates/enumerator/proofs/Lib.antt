@@ -1,20 +1,26 @@
-mod Empty
-mod Unlisted
-mod Telling
-mod Standing
-mod Measuring
-mod Names
-mod Readying
-mod Allowing
-mod Stepping
-mod Instancing
-mod Choosing
-mod Learning
-mod Filling
-mod Showing
-mod Ending
-mod Lines
-mod Counting
-mod Naming
-mod Rounding
-mod Answering
+pub mod Telling
+pub mod Unlisted
+pub mod Standing
+pub mod AllOf
+pub mod Sizes
+pub mod Measuring
+pub mod GroundRules
+pub mod Names
+pub mod Readying
+pub mod Allowing
+pub mod NamesCome
+pub mod Looked
+pub mod Instancing
+pub mod Stepping
+pub mod Filling
+pub mod Empty
+pub mod Counting
+pub mod Choosing
+pub mod Lines
+pub mod Answering
+pub mod Learning
+pub mod Ending
+pub mod Rounding
+pub mod Showing
+pub mod TestRules
+pub mod Beginning

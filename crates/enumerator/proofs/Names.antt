@@ -1,50 +1,68 @@
 -- What the ids of a search stand for.
-use Rattle.std.proofs.Common.{◌≡◌, ℕ, zero, suc, ◌+◌, ◌<◌, List, [], ◌∷◌, ◌++◌, map, length, refl, sym, ◌∙◌, ap, arith, length-append, append_assoc}
-use Rattle.std.specs.Prelude.{Some, slice_get}
-use Rattle.std.proofs.lemmas.List.{length-map, map-append}
-use Rattle.asp_meaning.specs.Atoms.{Atom}
-use Rattle.plain_rules.specs.Rules.{proposition}
-use Rattle.plain_program.specs.Programs.{atom_at}
-use Rattle.search_theory.specs.States.{AtomNode, Named, BodyOf}
-use Rattle.ground_search.specs.Searching.{names_of}
-
-abbrev named : List ℕ → AtomNode Atom
-named n = Named (proposition n)
-
-abbrev bodies_of : List ℕ → List (AtomNode Atom)
-bodies_of bodies = map (λ (j : ℕ). let n : AtomNode Atom = BodyOf j in n) bodies
+use Rattle.std.proofs.Common.{◌≡◌, ℕ, zero, suc, ◌<◌, ◌⊎◌, inl, inr, List, [], ◌∷◌, ◌++◌, map, length, refl, sym, ◌∙◌, ap, subst, arith}
+use Rattle.std.specs.Prelude.{Option, Some, None, slice_get}
+use Rattle.std.proofs.lemmas.Option.{slice_get_within}
+use Rattle.lists.specs.Lists.{◌∈◌}
+use Rattle.core_meaning.specs.Atoms.{GroundAtom}
+use Rattle.search_theory.specs.declared.entry.Entry.{Entry}
+use Rattle.search_theory.specs.Values.{Value, value_of}
+use Rattle.search_theory.specs.States.{AtomNode, Named, BodyOf, Names}
+use Rattle.search_theory.proofs.Basics.{value_cases}
 
 -- a named atom is not a body
-pub named_no_body : (a : Atom) (j : ℕ) → let n : AtomNode Atom = Named a in ¬ (Some n ≡ Some (BodyOf j))
+pub named_no_body : (a : GroundAtom) (j : ℕ) → let n : AtomNode GroundAtom = Named a in ¬ (Some n ≡ Some (BodyOf j))
 named_no_body a j e = cc
 
--- the program's atoms stand at their places
-pub name_there : (names : List (List ℕ)) (bodies : List ℕ) (x : ℕ) → x < length names → slice_get (names_of names bodies) x ≡ Some (Named (atom_at names x))
-name_there [] bodies x h = absurd (omega arith)
-name_there (n ∷ names) bodies zero h = refl
-name_there (n ∷ names) bodies (suc x) h = name_there names bodies x (omega arith)
+-- what stands at a place of the first list stands there in the whole
+pub get_low : {X : Type 0} (xs ys : List X) (n : ℕ) (x : X) → slice_get (xs ++ ys) n ≡ Some x → n < length xs → slice_get xs n ≡ Some x
+get_low [] ys n x e low = absurd (omega (arith, low))
+get_low (z ∷ xs) ys zero x e low = e
+get_low (z ∷ xs) ys (suc n) x e low = get_low xs ys n x e (omega (arith, low))
 
--- what is named is one of the program's atoms
-pub name_low : (names : List (List ℕ)) (bodies : List ℕ) (x : ℕ) (a : Atom) → slice_get (names_of names bodies) x ≡ Some (Named a) → x < length names
-name_low [] [] x a e = cc
-name_low [] (j ∷ bodies) zero a e = cc
-name_low [] (j ∷ bodies) (suc x) a e = absurd (no_name bodies x a e)
-  where
-    no_name : (bodies : List ℕ) (x : ℕ) (a : Atom) → slice_get (bodies_of bodies) x ≡ Some (Named a) → ⊥
-    no_name [] x a e = cc
-    no_name (j ∷ bodies) zero a e = cc
-    no_name (j ∷ bodies) (suc x) a e = no_name bodies x a e
-name_low (n ∷ names) bodies zero a e = omega arith
-name_low (n ∷ names) bodies (suc x) a e = let k = name_low names bodies x a e in omega (arith, k)
+-- something stands at each place
+pub get_some : {X : Type 0} (xs : List X) (n : ℕ) → n < length xs → (x : X) × (slice_get xs n ≡ Some x)
+get_some [] n low = absurd (omega (arith, low))
+get_some (z ∷ xs) zero low = (z, refl)
+get_some (z ∷ xs) (suc n) low = get_some xs n (omega (arith, low))
 
--- how many ids there are
-pub ids_are : (names : List (List ℕ)) (bodies : List ℕ) → length (names_of names bodies) ≡ length names + length bodies
-ids_are names bodies =
-    let a = length-append (map named names) (bodies_of bodies) in
-    let b = length-map names named in
-    let c = length-map bodies (λ (j : ℕ). let n : AtomNode Atom = BodyOf j in n) in
-    omega (arith, a, b, c)
+-- a member stands at a place
+pub get_at : {X : Type 0} (xs : List X) (x : X) → x ∈ xs → (n : ℕ) × (slice_get xs n ≡ Some x)
+get_at [] x i = absurd i
+get_at (z ∷ xs) x (inl e) = (0, ap (λ w. Some w) (sym e))
+get_at (z ∷ xs) x (inr i) = let k = get_at xs x i in (suc k.0, k.1)
 
--- one body atom more
-pub body_named : (names : List (List ℕ)) (bodies : List ℕ) (j : ℕ) → names_of names (bodies ++ j ∷ []) ≡ names_of names bodies ++ BodyOf j ∷ []
-body_named names bodies j = ap (λ z. map named names ++ z) (map-append (λ (i : ℕ). let n : AtomNode Atom = BodyOf i in n) bodies (j ∷ [])) ∙ sym (append_assoc (map named names) (bodies_of bodies) (BodyOf j ∷ []))
+-- ids that name atoms are there
+pub names_below : (names : List (AtomNode GroundAtom)) (xs : List ℕ) (atoms : List GroundAtom) → Names names xs atoms → (x : ℕ) → x ∈ xs → x < length names
+names_below names [] [] h x i = absurd i
+names_below names [] (a ∷ atoms) h x i = absurd i
+names_below names (y ∷ xs) [] h x i = absurd h
+names_below names (y ∷ xs) (a ∷ atoms) h x (inl e) = subst (λ z. z < length names) (sym e) (slice_get_within names y (Named a) h.0)
+names_below names (y ∷ xs) (a ∷ atoms) h x (inr i) = names_below names xs atoms h.1 x i
+
+-- each of the atoms has one of the ids
+pub name_among : (names : List (AtomNode GroundAtom)) (xs : List ℕ) (atoms : List GroundAtom) → Names names xs atoms → (a : GroundAtom) → a ∈ atoms → (x : ℕ) × (x ∈ xs) × (slice_get names x ≡ Some (Named a))
+name_among names [] [] h a i = absurd i
+name_among names [] (b ∷ atoms) h a i = absurd h
+name_among names (y ∷ xs) [] h a i = absurd i
+name_among names (y ∷ xs) (b ∷ atoms) h a (inl e) = (y, inl refl, subst (λ z. slice_get names y ≡ Some (Named z)) (sym e) h.0)
+name_among names (y ∷ xs) (b ∷ atoms) h a (inr i) = let r = name_among names xs atoms h.1 a i in (r.0, inr r.1, r.2)
+
+-- one id more
+pub names_snoc : (names : List (AtomNode GroundAtom)) (xs : List ℕ) (atoms : List GroundAtom) (x : ℕ) (a : GroundAtom) → Names names xs atoms → slice_get names x ≡ Some (Named a) → Names names (xs ++ x ∷ []) (atoms ++ a ∷ [])
+names_snoc names [] [] x a h there = (there, tt)
+names_snoc names [] (b ∷ atoms) x a h there = absurd h
+names_snoc names (y ∷ xs) [] x a h there = absurd h
+names_snoc names (y ∷ xs) (b ∷ atoms) x a h there = (h.0, names_snoc names xs atoms x a h.1 there)
+
+-- without atoms there are no ids
+pub no_names : (names : List (AtomNode GroundAtom)) (xs : List ℕ) → Names names xs [] → xs ≡ []
+no_names names [] h = refl
+no_names names (x ∷ xs) h = absurd h
+
+-- an atom with a value has an entry
+pub has_entry : (stack : List Entry) (x : ℕ) (v : Value) → value_of stack x ≡ Some v → (e : Entry) × (e ∈ stack) × (e.atom ≡ x)
+has_entry [] x v h = cc
+has_entry (e ∷ rest) x v h = elim (value_cases e rest x) [
+  | inl c ↦ (e, inl refl, c.0)
+  | inr c ↦ (let k = has_entry rest x v (sym c.1 ∙ h) in (k.0, inr k.1, k.2))
+]

@@ -7,12 +7,12 @@ use Rattle.alpha_outside.specs.Outside.{Rose}
 use Rattle.alpha_outside.specs.declared.literal.Value.{Value}
 use Rattle.search_theory.specs.Values.{is_up, lit, value_of, chosen, Holds}
 use Rattle.search_theory.specs.Nogoods.{Nogood}
-use Rattle.search_theory.specs.States.{State}
+use Rattle.search_theory.specs.States.{State, Free}
 use Rattle.search_theory.specs.Journals.{replay}
 use Rattle.search_theory.specs.declared.entry.Entry.{Entry}
 use Rattle.search_theory.proofs.Fresh.{superset_of_none}
 use Rattle.ground_search.specs.Searching.{Searching}
-use Rattle.enumerator.specs.Journals.{Reached}
+use Rattle.search_rules.specs.Rules.{Reached, search_rules}
 use Rattle.enumerator.specs.Measures.{id_count, candidates, still_open}
 use Rattle.enumerator.specs.Runs.{Runs}
 use Rattle.enumerator.specs.Standing as standing
@@ -23,7 +23,6 @@ use Rattle.enumerator.specs.declared.answers.SearchFault.TheVariants.{WriteFault
 use Rattle.enumerator.specs.declared.settle.Finish.{Finish}
 use Rattle.enumerator.proofs.Counting.{HasOneSign, learned_falls, open_less}
 use Rattle.enumerator.proofs.Learning.{told_at, chosen_hold}
-use Rattle.enumerator.proofs.Stepping.{fits_after}
 
 -- ---- each round leaves less to learn
 
@@ -43,12 +42,12 @@ round_falls v v1 v2 told told1 held left rest somewhere runs again =
     let g = somewhere.given in
     let s = runs.carries held left rest g somewhere.fits somewhere.stands in
     let known = told_at g v1 told1 held left rest s.0 s.1 in
-    let r : Reached = replay g.core s.0 in
-    let free : State.phase r ≡ Rattle.search_theory.specs.States.Free = sym (ap (λ (z : Reached). z.phase) s.1.is) ∙ runs.ready.free in
+    let r : Reached = replay (search_rules g.core) s.0 in
+    let free : State.phase r ≡ Free = sym (ap (λ (z : Reached). z.phase) s.1.is) ∙ runs.ready.still.free in
     let one : HasOneSign (chosen v1.stack) = subst (λ (z : Reached). HasOneSign (chosen z.stack)) (sym s.1.is)
     (λ x up down. holds_once (State.stack r) x (chosen_hold g.core r known (lit x true) up) (chosen_hold g.core r known (lit x false) down)) in
     let none : (ng : Nogood) → ng ∈ v1.nogoods → ng.lits ⊆ chosen v1.stack → ng.lits ≡ [] = subst (λ (z : Reached). (ng : Nogood) → ng ∈ z.nogoods → ng.lits ⊆ chosen z.stack → ng.lits ≡ []) (sym s.1.is)
-    (λ ng i sub. superset_of_none g.core r known.valid known.bodies known.newly (inl free) ng i sub) in
+    (λ ng i sub. superset_of_none (search_rules g.core) r known.valid known.bodies known.newly (inl free) ng i sub) in
     let less = learned_falls v1.nogoods v2.nogoods (chosen v1.stack) again.learned again.some one again.low none in
     let before = open_less v.nogoods v1.nogoods runs.stays (candidates id_count) in
     omega (arith, less, before)
@@ -56,19 +55,19 @@ round_falls v v1 v2 told told1 held left rest somewhere runs again =
 -- ---- what rounds carry on
 
 -- a round more
-pub carries_on : (v v1 v2 : Searching) (told told1 told2 : Option outside.Journal) (held held1 held2 : Option (List ℕ)) (a b c : ℕ × ℕ) → v1.program ≡ v.program
+pub carries_on : (v v1 v2 : Searching) (told told1 told2 : Option outside.Journal) (held held1 held2 : Option (List ℕ)) (a b c : ℕ × ℕ) → v1.core ≡ v.core
     → Carries v v1 told told1 held held1 a b → Carries v1 v2 told1 told2 held1 held2 b c → Carries v v2 told told2 held held2 a c
-carries_on v v1 v2 told told1 told2 held held1 held2 a b c program first next g fits s = next g (fits_after g v v1 program fits) (first g fits s)
+carries_on v v1 v2 told told1 told2 held held1 held2 a b c core first next g fits s = next g (core ∙ fits) (first g fits s)
 
 -- the search still stands
-pub stands_still : (v v1 : Searching) (told told1 : Option outside.Journal) (held held1 : Option (List ℕ)) (left rest left1 rest1 : ℕ) → v1.program ≡ v.program → Carries v v1 told told1 held held1 (left, rest) (left1, rest1)
+pub stands_still : (v v1 : Searching) (told told1 : Option outside.Journal) (held held1 : Option (List ℕ)) (left rest left1 rest1 : ℕ) → v1.core ≡ v.core → Carries v v1 told told1 held held1 (left, rest) (left1, rest1)
     → StandsSomewhere v told held left rest → StandsSomewhere v1 told1 held1 left1 rest1
-stands_still v v1 told told1 held held1 left rest left1 rest1 program carries s = record { given = s.given; fits = fits_after s.given v v1 program s.fits; stands = carries s.given s.fits s.stands }
+stands_still v v1 told told1 held held1 left rest left1 rest1 core carries s = record { given = s.given; fits = core ∙ s.fits; stands = carries s.given s.fits s.stands }
 
 -- the last round ends the search
-pub ends_on : (v v1 : Searching) (told told1 told2 : Option outside.Journal) (held held1 held2 : Option (List ℕ)) (a b c : ℕ × ℕ) (how : Finish) → v1.program ≡ v.program → Carries v v1 told told1 held held1 a b
+pub ends_on : (v v1 : Searching) (told told1 told2 : Option outside.Journal) (held held1 held2 : Option (List ℕ)) (a b c : ℕ × ℕ) (how : Finish) → v1.core ≡ v.core → Carries v v1 told told1 held held1 a b
     → EndsFrom v1 told1 told2 held1 held2 b c how → EndsFrom v told told2 held held2 a c how
-ends_on v v1 told told1 told2 held held1 held2 a b c how program carries ends g fits s = ends g (fits_after g v v1 program fits) (carries g fits s)
+ends_on v v1 told told1 told2 held held1 held2 a b c how core carries ends g fits s = ends g (core ∙ fits) (carries g fits s)
 
 rose_on : (before mid now : ℕ) → before ≤ mid → Rose mid now → Rose before now
 rose_on before mid now later rose = grind arith
@@ -79,7 +78,7 @@ leaves_later g told held o m n t k l TraceFault first second w = (rose_on t k l 
 leaves_later g told held o m n t k l OutOfMemory first second w = w
 
 -- or it ends by a fault
-pub leaves_on : (v v1 : Searching) (told told1 told2 : Option outside.Journal) (held held1 held2 : Option (List ℕ)) (a b : ℕ × ℕ) (o m n t k l : ℕ) (fault : SearchFault) → v1.program ≡ v.program → Carries v v1 told told1 held held1 a b → o ≤ m → t ≤ k
+pub leaves_on : (v v1 : Searching) (told told1 told2 : Option outside.Journal) (held held1 held2 : Option (List ℕ)) (a b : ℕ × ℕ) (o m n t k l : ℕ) (fault : SearchFault) → v1.core ≡ v.core → Carries v v1 told told1 held held1 a b → o ≤ m → t ≤ k
     → LeavesFrom v1 told1 told2 held1 held2 b (m, n) (k, l) fault → LeavesFrom v told told2 held held2 a (o, n) (t, l) fault
-leaves_on v v1 told told1 told2 held held1 held2 a b o m n t k l fault program carries first second leaves g fits s =
-    leaves_later g told2 held2 o m n t k l fault first second (leaves g (fits_after g v v1 program fits) (carries g fits s))
+leaves_on v v1 told told1 told2 held held1 held2 a b o m n t k l fault core carries first second leaves g fits s =
+    leaves_later g told2 held2 o m n t k l fault first second (leaves g (core ∙ fits) (carries g fits s))

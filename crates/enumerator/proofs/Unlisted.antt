@@ -1,9 +1,18 @@
 -- A state without the sets found is as good as the state for all that a search does but showing sets.
 use Rattle.std.proofs.Common.{◌≡◌, ℕ, List, [], refl, inl, inr}
+use Rattle.alpha_outside.specs.declared.event.Event as event
+use Rattle.alpha_outside.specs.declared.event.Event.TheVariants as say
+use Rattle.search_theory.specs.Journals.{Says}
 use Rattle.search_theory.specs.Tables.{Made}
 use Rattle.search_theory.specs.States.{IsActive, IsSettled, IsStuck, IsFull, AreTrueUserAtoms}
 use Rattle.search_theory.specs.Events.{NameTerm, NameAtom, NameBody, Number, Make, Put, Choose, Close, Strike, Learn, Back, Show, Pass, Analysed, Justified, Decisions, Enumerated, happens, Allowed, NoneStuck}
-use Rattle.enumerator.specs.Journals.{Core, Step, Reached}
+use Rattle.search_theory.specs.Instances.{Rules}
+use Rattle.core_meaning.specs.Atoms.{GroundAtom}
+use Rattle.search_rules.specs.Tests.{Maker}
+use Rattle.core_rules.specs.declared.rules.Core.{Core}
+use Rattle.search_rules.specs.Rules.{Numbers, Reached}
+use Rattle.search_rules.specs.Faults.{IsTooLarge}
+use Rattle.enumerator.specs.Journals.{Step}
 use Rattle.enumerator.specs.Standing.{unlisted}
 
 -- the event shows no set
@@ -22,17 +31,17 @@ ShowsNone (Learn how ls) = Unit {0}
 ShowsNone (Back l) = Unit {0}
 ShowsNone (Pass ids) = Unit {0}
 
-module _ (core : Core) (s : Reached) where
+module _ (rules : Rules Numbers GroundAtom Maker) (s : Reached) where
   -- an instance that is active is so
-  active_on : (k : Made ℕ) (b : ℕ) → IsActive (unlisted s) k b → IsActive s k b
+  active_on : (k : Made Maker) (b : ℕ) → IsActive (unlisted s) k b → IsActive s k b
   active_on k b a = record { has_body = a.has_body; not_yet = a.not_yet; pos_true = a.pos_true; neg_not_up = a.neg_not_up }
 
   -- and back
-  active_off : (k : Made ℕ) (b : ℕ) → IsActive s k b → IsActive (unlisted s) k b
+  active_off : (k : Made Maker) (b : ℕ) → IsActive s k b → IsActive (unlisted s) k b
   active_off k b a = record { has_body = a.has_body; not_yet = a.not_yet; pos_true = a.pos_true; neg_not_up = a.neg_not_up }
 
   -- a settled state is settled
-  pub settled_on : IsSettled core (unlisted s) → IsSettled core s
+  pub settled_on : IsSettled rules (unlisted s) → IsSettled rules s
   settled_on t = record {
     none_struck = t.none_struck;
     none_unit = t.none_unit;
@@ -42,7 +51,7 @@ module _ (core : Core) (s : Reached) where
   }
 
   -- and back
-  pub settled_off : IsSettled core s → IsSettled core (unlisted s)
+  pub settled_off : IsSettled rules s → IsSettled rules (unlisted s)
   settled_off t = record {
     none_struck = t.none_struck;
     none_unit = t.none_unit;
@@ -52,26 +61,26 @@ module _ (core : Core) (s : Reached) where
   }
 
   -- an atom that is stuck is so
-  pub stuck_on : (x : ℕ) → IsStuck core (unlisted s) x → IsStuck core s x
+  pub stuck_on : (x : ℕ) → IsStuck rules (unlisted s) x → IsStuck rules s x
   stuck_on x t = record { named = t.named; must_be = t.must_be; none_struck = t.none_struck; none_unit = t.none_unit; why = elim t.why [ inl k ↦ inl (settled_on k) | inr h ↦ inr h ] }
 
   -- and back
-  stuck_off : (x : ℕ) → IsStuck core s x → IsStuck core (unlisted s) x
+  stuck_off : (x : ℕ) → IsStuck rules s x → IsStuck rules (unlisted s) x
   stuck_off x t = record { named = t.named; must_be = t.must_be; none_struck = t.none_struck; none_unit = t.none_unit; why = elim t.why [ inl k ↦ inl (settled_off k) | inr h ↦ inr h ] }
 
-  none_stuck_on : NoneStuck core (unlisted s) → NoneStuck core s
+  none_stuck_on : NoneStuck rules (unlisted s) → NoneStuck rules s
   none_stuck_on h x t = h x (stuck_off x t)
 
   -- a full state is full
-  pub full_on : IsFull core (unlisted s) → IsFull core s
+  pub full_on : IsFull rules (unlisted s) → IsFull rules s
   full_on t = record { all_valued = t.all_valued; none_must_be = t.none_must_be; none_struck = t.none_struck; none_due = t.none_due; none_waiting = t.none_waiting }
 
   -- the atoms of a set are so
-  pub atoms_on : (ids : List ℕ) → AreTrueUserAtoms core (unlisted s) ids → AreTrueUserAtoms core s ids
+  pub atoms_on : (ids : List ℕ) → AreTrueUserAtoms rules (unlisted s) ids → AreTrueUserAtoms rules s ids
   atoms_on ids t = record { all_there = t.all_there; each_true = t.each_true; atoms = t.atoms; names = t.names; ordered = t.ordered }
 
   -- what may come may come, but for a set
-  pub allowed_on : (e : Step) → ShowsNone e → Allowed core [] (unlisted s) e → Allowed core [] s e
+  pub allowed_on : (e : Step) → ShowsNone e → Allowed rules [] (unlisted s) e → Allowed rules [] s e
   allowed_on (NameTerm node) w h = h
   allowed_on (NameAtom a) w h = h
   allowed_on NameBody w h = h
@@ -90,7 +99,7 @@ module _ (core : Core) (s : Reached) where
   allowed_on (Pass ids) w h = (h.0, full_on h.1, atoms_on ids h.2, h.3)
 
   -- the state after an event, without the sets found
-  pub unlisted_next : (e : Step) → unlisted (happens core (unlisted s) e) ≡ unlisted (happens core s e)
+  pub unlisted_next : (e : Step) → unlisted (happens rules (unlisted s) e) ≡ unlisted (happens rules s e)
   unlisted_next (NameTerm node) = refl
   unlisted_next (NameAtom a) = refl
   unlisted_next NameBody = refl
@@ -104,3 +113,33 @@ module _ (core : Core) (s : Reached) where
   unlisted_next (Back l) = refl
   unlisted_next (Show ids) = refl
   unlisted_next (Pass ids) = refl
+
+  -- a project's event says the same in both
+  pub says_on : (ev : event.Event) (e : Step) → Says rules (unlisted s) ev e → Says rules s ev e
+  says_on (say.Term id node) e h = h
+  says_on (say.Atom id pred args) e h = h
+  says_on (say.Body id inst) e h = h
+  says_on (say.Numbered atom number) e h = h
+  says_on (say.Made inst maker) e h = h
+  says_on (say.Put atom value by) e h = h
+  says_on (say.Chosen body up) e h = h
+  says_on (say.Closed atom) e h = h
+  says_on (say.Struck nogood) e h = h
+  says_on (say.Kept nogood) e h = h
+  says_on (say.Learned nogood how lits cover) e h = h
+  says_on (say.Back level) e h = h
+  says_on (say.Wide atom count) e h = h
+  says_on (say.Shown atoms) e h = h
+  says_on (say.Passed atoms) e h = h
+
+-- a term that is too large is so
+pub too_large_on : (core : Core) (s : Reached) (line size : ℕ) → IsTooLarge core (unlisted s) line size → IsTooLarge core s line size
+too_large_on core s line size t = record {
+  rule = t.rule;
+  binding = t.binding;
+  faulty = record { among = t.faulty.among; bound = t.faulty.bound; no_other = t.faulty.no_other; up = t.faulty.up; tests = t.faulty.tests; terms = t.faulty.terms };
+  line_is = t.line_is;
+  term = t.term;
+  stands = t.stands;
+  large = t.large;
+}

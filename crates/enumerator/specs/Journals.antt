@@ -1,25 +1,21 @@
 -- The journal of a search: what a trace is told, and the lines of the sets that it shows.
-use Rattle.std.specs.Prelude.{◌≡◌, ℕ, ◌+◌, List, [], ◌∷◌, ◌++◌, Option, Some, None, slice_get}
+use Rattle.std.specs.Prelude.{◌≡◌, ℕ, ◌+◌, List, [], ◌∷◌, ◌++◌, map, Option, Some, None, slice_get}
 use Rattle.alpha_outside.specs.declared.event.Event as event
 use Rattle.alpha_outside.specs.Outside as outside
 use Rattle.asp_meaning.specs.Atoms.{Atom}
 use Rattle.asp_meaning.specs.Lines.{IsSetLine}
+use Rattle.core_rules.specs.declared.rules.Core.{Core}
+use Rattle.core_meaning.specs.Atoms.{GroundAtom, User}
 use Rattle.search_theory.specs.Nogoods.{Nogood, IsStruck}
-use Rattle.search_theory.specs.Instances.{Rules}
-use Rattle.search_theory.specs.States.{State, Names}
+use Rattle.search_theory.specs.States.{Names}
 use Rattle.search_theory.specs.Events.{Event, NameTerm, NameAtom, NameBody, Number, Make, Put, Choose, Close, Strike, Learn, Back, Show, Pass}
 use Rattle.search_theory.specs.Journals.{SaysAll}
+use Rattle.search_rules.specs.Tests.{Maker}
+use Rattle.search_rules.specs.Rules.{Reached, search_rules}
 
--- the rules of a search over atoms without numbers, whose makers are numbers
-abbrev pub Core : Type 0
-Core = Rules (Unit {0}) Atom ℕ
-
--- one event, a journal with the newest event first, and the state that it leads to
+-- one event; a journal has the newest event first
 abbrev pub Step : Type 0
-Step = Event Atom ℕ
-
-abbrev pub Reached : Type 0
-Reached = State (Unit {0}) Atom ℕ
+Step = Event GroundAtom Maker
 
 -- ---- what a trace is told
 
@@ -30,7 +26,7 @@ Adds (Some before) now events = now ≡ Some (record before { events = before.ev
 
 -- the events told in between say this journal
 abbrev pub Tells : Core → Option outside.Journal → Option outside.Journal → List Step → Type 0
-Tells core told told' journal = (events : List event.Event) × Adds told told' events × SaysAll core events journal
+Tells core told told' journal = (events : List event.Event) × Adds told told' events × SaysAll (search_rules core) events journal
 
 -- how many nogoods were noted as struck
 abbrev pub strikes : List Step → ℕ
@@ -55,9 +51,9 @@ SomeStruck s = (n : ℕ) × (ng : Nogood) × (slice_get s.nogoods n ≡ Some ng)
 
 -- ---- the lines of the sets shown
 
--- the line of the atoms with these ids
+-- the line of the atoms with these ids, all of which are of the program
 abbrev pub IsLineOfIds : Reached → List ℕ → List ℕ → Type 0
-IsLineOfIds s ids line = (atoms : List Atom) × Names s.names ids atoms × IsSetLine atoms line
+IsLineOfIds s ids line = (atoms : List Atom) × Names s.names ids (map User atoms) × IsSetLine atoms line
 
 -- the lines of these sets, one by one
 abbrev pub AreLinesOf : Reached → List (List ℕ) → List (List ℕ) → Type 0

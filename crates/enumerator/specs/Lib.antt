@@ -1,8 +1,9 @@
 pub mod Journals
 pub mod Search
 pub mod Standing
-pub mod Runs
 pub mod Moves
+pub mod Runs
+pub mod Naming
+pub mod Looking
 pub mod Settling
 pub mod Measures
-pub mod Naming

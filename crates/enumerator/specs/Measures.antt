@@ -8,7 +8,8 @@ use Rattle.search_theory.specs.declared.entry.Entry.{Entry}
 use Rattle.search_theory.specs.Values.{value_of, lit}
 use Rattle.search_theory.specs.Nogoods.{Nogood}
 use Rattle.search_theory.specs.Tables.{Made, same_lit}
-use Rattle.ground_search.specs.Searching.{Searching, is_made_by}
+use Rattle.search_rules.specs.Tests.{Maker, same_maker}
+use Rattle.ground_search.specs.Searching.{Searching}
 
 -- how many ids there may be
 unfoldable pub id_count : ℕ
@@ -26,14 +27,18 @@ abbrev pub room_below : List Entry → ℕ → ℕ
 room_below stack zero = 0
 room_below stack (suc n) = room (value_of stack n) + room_below stack n
 
--- the makers below this one whose instances aren't made
-abbrev pub unmade : List (Made ℕ) → ℕ → ℕ
+-- whether the instance is that of this rule
+abbrev pub is_made_by : ℕ → Made Maker → Bool
+is_made_by m k = same_maker k.maker (m, [])
+
+-- the rules below this one that made no instance
+abbrev pub unmade : List (Made Maker) → ℕ → ℕ
 unmade made zero = 0
 unmade made (suc n) = cond (list_any (is_made_by n) made) 0 1 + unmade made n
 
 -- the values and instances that may come before the literals chosen are learned
 abbrev pub work_left : Searching → ℕ
-work_left v = unmade v.made (length v.program.rules) + room_below v.stack id_count
+work_left v = unmade v.made (length v.core.rules) + room_below v.stack id_count
 
 -- sets of literals of ids below this one, without both signs of one
 abbrev pub candidates : ℕ → List (List Lit)

@@ -1,27 +1,29 @@
 -- What a search does next where nothing in particular has to come.
-use Rattle.std.specs.Prelude.{◌≡◌, ◌⊎◌, ℕ, ◌<◌, length, Some, None, slice_get}
+use Rattle.std.specs.Prelude.{◌≡◌, ◌⊎◌, ℕ, ◌<◌, Some, None, slice_get}
 use Rattle.lists.specs.Lists.{◌∈◌}
 use Rattle.alpha_outside.specs.declared.literal.Value.TheVariants.{MustBe}
 use Rattle.search_theory.specs.Values.{value_of, HasClosed}
 use Rattle.search_theory.specs.Nogoods.{Nogood, IsStruck, Gives, NoneStruck, NoneUnit}
 use Rattle.search_theory.specs.Tables.{Made}
-use Rattle.search_theory.specs.States.{IsActive, NoneActive}
+use Rattle.search_theory.specs.States.{IsActive}
+use Rattle.search_rules.specs.Tests.{Maker}
+use Rattle.search_rules.specs.Faults.{IsTooLarge}
 use Rattle.ground_search.specs.Searching.{Searching, ids, state_of}
-use Rattle.ground_search.specs.Moves.{IsDue, NothingIsDue}
+use Rattle.ground_search.specs.Moves.{IsDue, NothingIsDue, NamesAreSmall, NoChoice, IsNamed}
 use Rattle.enumerator.specs.declared.moves.Move.{Move}
-use Rattle.enumerator.specs.declared.moves.Move.TheVariants.{Strike, Put, Make, Choose, Close, Stuck, Full}
+use Rattle.enumerator.specs.declared.moves.Move.TheVariants.{Strike, Put, Make, Choose, Close, TooLarge, Stuck, Full}
 
 -- some named atom is must-be-true
 abbrev pub SomeMustBe : Searching → Type 0
-SomeMustBe v = (x : ℕ) × (x < length v.program.names) × (value_of v.stack x ≡ Some MustBe)
+SomeMustBe v = (x : ℕ) × IsNamed v x × (value_of v.stack x ≡ Some MustBe)
 
 -- no named atom is must-be-true
 abbrev pub NoneMustBe : Searching → Type 0
-NoneMustBe v = (x : ℕ) → x < length v.program.names → ¬ (value_of v.stack x ≡ Some MustBe)
+NoneMustBe v = (x : ℕ) → IsNamed v x → ¬ (value_of v.stack x ≡ Some MustBe)
 
 -- every named atom has a value
 abbrev pub NoneUnassigned : Searching → Type 0
-NoneUnassigned v = (x : ℕ) → x < length v.program.names → ¬ (value_of v.stack x ≡ None)
+NoneUnassigned v = (x : ℕ) → IsNamed v x → ¬ (value_of v.stack x ≡ None)
 
 -- nothing is struck or unit
 pub record IsQuiet (v : Searching) : Type 0 where
@@ -32,27 +34,34 @@ pub record IsQuiet (v : Searching) : Type 0 where
 abbrev pub NoneSince : Searching → Type 0
 NoneSince v = NoneMustBe v ⊎ (¬ HasClosed v.stack)
 
+-- no rule whose positive atoms are known is due, and the terms of all named atoms are within the limit
+pub record NoneIsDue (v : Searching) : Type 0 where
+  pub none : NothingIsDue v
+  pub small : NamesAreSmall v
+
 -- nothing is due or active
 pub record IsIdle (v : Searching) : Type 0 where
-  pub none_due : NothingIsDue v
-  pub none_active : NoneActive (state_of v)
+  pub none_due : NoneIsDue v
+  pub no_choice : NoChoice v
 
 -- this is what comes next
 abbrev pub MoveIs : Searching → Move → Type 0
 MoveIs v (Strike n) = (ng : Nogood) × (slice_get v.nogoods n ≡ Some ng) × IsStruck v.stack ng
 MoveIs v (Put n a value) = (a < ids v) × ((ng : Nogood) × (slice_get v.nogoods n ≡ Some ng) × Gives v.stack ng a value)
 MoveIs v (Make m) = IsQuiet v × NoneSince v × IsDue v m
-MoveIs v (Choose b) = IsQuiet v × NoneSince v × NothingIsDue v × (b < ids v) × ((k : Made ℕ) × (k ∈ v.made) × IsActive (state_of v) k b)
-MoveIs v (Close x) = IsQuiet v × IsIdle v × NoneMustBe v × (x < length v.program.names) × (value_of v.stack x ≡ None)
+MoveIs v (Choose b) = IsQuiet v × NoneSince v × NoneIsDue v × (b < ids v) × ((k : Made Maker) × (k ∈ v.made) × IsActive (state_of v) k b)
+MoveIs v (Close x) = IsQuiet v × IsIdle v × NoneMustBe v × IsNamed v x × (value_of v.stack x ≡ None)
+MoveIs v (TooLarge line size) = IsTooLarge v.core (state_of v) line size
 MoveIs v Stuck = IsQuiet v × SomeMustBe v × (HasClosed v.stack ⊎ IsIdle v)
 MoveIs v Full = IsQuiet v × IsIdle v × NoneMustBe v × NoneUnassigned v
 
--- a conflict, a stuck atom or a set: the literals chosen are learned then
+-- a conflict, a stuck atom or a set, after which the literals chosen are learned; or the end of the search by a term that is too large
 abbrev pub IsHalt : Move → Type 0
 IsHalt (Strike n) = Unit {0}
 IsHalt (Put n a value) = ⊥
 IsHalt (Make m) = ⊥
 IsHalt (Choose b) = ⊥
 IsHalt (Close x) = ⊥
+IsHalt (TooLarge line size) = Unit {0}
 IsHalt Stuck = Unit {0}
 IsHalt Full = Unit {0}

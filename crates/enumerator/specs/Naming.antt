@@ -1,30 +1,48 @@
--- The names of a program's atoms are noted first.
-use Rattle.std.specs.Prelude.{◌≡◌, ℕ, List, [], take, Option}
+-- What naming the atoms of a rule leaves: the search stands where it stood, but for terms and atoms that are named.
+use Rattle.std.specs.Prelude.{◌≡◌, ℕ, Bool, List, [], ◌++◌, Option, Some, None, slice_get}
+use Rattle.lists.specs.Lists.{◌∈◌}
 use Rattle.alpha_outside.specs.Outside as outside
-use Rattle.search_theory.specs.Journals.{Legal, replay}
-use Rattle.plain_program.specs.Programs.{Ground, AreRulesOf}
-use Rattle.ground_search.specs.Searching.{fresh, state_of}
-use Rattle.enumerator.specs.Journals.{Core, Step, Reached, Tells, strikes}
-use Rattle.enumerator.specs.Standing.{IsTraceCause}
-use Rattle.enumerator.specs.declared.answers.SearchFault.{SearchFault}
+use Rattle.core_rules.specs.declared.rules.CoreAtom.{CoreAtom}
+use Rattle.core_rules.specs.declared.rules.CoreRule.{CoreRule}
+use Rattle.core_meaning.specs.Atoms.{GroundAtom, atom_under}
+use Rattle.core_meaning.specs.Instances.{atoms_under}
+use Rattle.search_theory.specs.States.{AtomNode, IsName, Names}
+use Rattle.term_eval.specs.Evals.{Grows}
+use Rattle.ground_search.specs.Searching.{Searching, state_of}
+use Rattle.ground_search.specs.Resolving.{atoms_of, IsOneTooLarge}
+use Rattle.enumerator.specs.Standing.{Carries, IsStill}
+use Rattle.enumerator.specs.declared.naming.Name.{Name}
+use Rattle.enumerator.specs.declared.naming.Name.TheVariants as name
+use Rattle.enumerator.specs.declared.naming.NameList.{NameList}
+use Rattle.enumerator.specs.declared.naming.NameList.TheVariants as list
+use Rattle.enumerator.specs.declared.naming.HeadName.{HeadName}
+use Rattle.enumerator.specs.declared.naming.HeadName.TheVariants as head
 
--- the state in which just the first atoms are named
-abbrev pub naming_state : Ground → ℕ → Reached
-naming_state program n = state_of (fresh (record program { names = take n program.names }))
+-- terms and atoms were named, and nothing else has changed
+pub record OnlyNames (v v' : Searching) (told told' : Option outside.Journal) : Type 0 where
+  pub same : v' ≡ record v { nodes = v'.nodes; noted = v'.noted; names = v'.names }
+  pub more : (later : List (AtomNode GroundAtom)) × (v'.names ≡ v.names ++ later)
+  pub still : IsStill v'
+  pub carries : (held : Option (List ℕ)) (left rest : ℕ) → Carries v v' told told' held held (left, rest) (left, rest)
 
--- a legal journal was told that names the first atoms
-pub record NamesFirst (core : Core) (program : Ground) (told told' : Option outside.Journal) (n : ℕ) : Type 0 where
-  pub journal : List Step
-  pub legal : Legal core [] journal
-  pub is : naming_state program n ≡ replay core journal
-  pub tells : Tells core told told' journal
-  pub no_strikes : strikes journal ≡ 0
+-- the atom has this id, or a term in it is too large
+abbrev pub IsNameOf : Searching → CoreAtom → Name → Type 0
+IsNameOf v a (name.Known id) = (g : GroundAtom) × (atom_under v.core.aggregates [] a ≡ Some g) × IsName (state_of v) id g
+IsNameOf v a (name.TooLarge size) = IsOneTooLarge a.args size
 
--- so it is for any rules of this program
-abbrev pub AreNoted : Ground → Option outside.Journal → Option outside.Journal → ℕ → Type 0
-AreNoted program told told' n = (core : Core) → AreRulesOf core program → NamesFirst core program told told' n
+-- the atoms have these ids, or a term in one is too large
+abbrev pub AreNamesOf : Searching → List CoreAtom → NameList → Type 0
+AreNamesOf v atoms (list.Known ids) = (gs : List GroundAtom) × (atoms_under v.core.aggregates [] atoms ≡ Some gs) × Names v.names ids gs
+AreNamesOf v atoms (list.TooLarge size) = (a : CoreAtom) × (a ∈ atoms) × IsOneTooLarge a.args size
 
--- a fault after some atoms were named
-pub record IsNamingFault (program : Ground) (told told' : Option outside.Journal) (before now : ℕ) (fault : SearchFault) : Type 0 where
-  pub noted : (n : ℕ) × AreNoted program told told' n
-  pub cause : IsTraceCause before now fault
+-- the id of the head, if there is one
+abbrev pub IsHeadName : Searching → Option CoreAtom → Option ℕ → Type 0
+IsHeadName v None None = Unit {0}
+IsHeadName v None (Some id) = ⊥
+IsHeadName v (Some a) None = ⊥
+IsHeadName v (Some a) (Some id) = IsNameOf v a (name.Known id)
+
+-- the head has this id, or a term in it is too large
+abbrev pub IsHeadOf : Searching → CoreRule → HeadName → Type 0
+IsHeadOf v r (head.Known id) = IsHeadName v r.head id
+IsHeadOf v r (head.TooLarge size) = (a : CoreAtom) × (r.head ≡ Some a) × IsOneTooLarge a.args size

@@ -1,18 +1,22 @@
--- What a search writes and tells, by its answer. P is the program.
+-- What a search writes and tells, by its answer.
 use Rattle.std.specs.Prelude.{◌≡◌, ◌⊎◌, ◌<◌, ◌≤◌, ℕ, List, [], ◌∷◌, ◌++◌, length, take, reverse, Option, Result, Ok, Err}
 use Rattle.std.specs.Io.KnownBytes.{Appends}
-use Rattle.lists.specs.Lists.{◌∈◌, concat}
+use Rattle.lists.specs.Lists.{◌∈◌, Each, HasNoRepeats, concat}
 use Rattle.alpha_outside.specs.Outside as outside
 use Rattle.alpha_outside.specs.Outside.{Rose}
-use Rattle.asp_syntax.specs.declared.tree.Statement.{Statement}
-use Rattle.asp_meaning.specs.Output.{IsAnswerSetLine, IsBraceLine, AreAnswerSetLines, HaveAll}
+use Rattle.asp_meaning.specs.Atoms.{Atom}
+use Rattle.asp_meaning.specs.Lines.{IsSetLine}
+use Rattle.asp_meaning.specs.Output.{IsBraceLine}
+use Rattle.core_rules.specs.declared.rules.Core.{Core}
+use Rattle.core_meaning.specs.AnswerSets.{HasCoreSets}
 use Rattle.search_theory.specs.States.{State}
 use Rattle.search_theory.specs.Journals.{Legal, replay}
-use Rattle.plain_rules.specs.Rules.{plain_rules}
+use Rattle.search_rules.specs.Rules.{search_rules}
+use Rattle.search_rules.specs.Faults.{IsTooLarge}
 use Rattle.enumerator.specs.Journals.{Step, Tells, strikes, SomeStruck, AreLinesOf}
 use Rattle.enumerator.specs.declared.answers.Settings.{Settings}
 use Rattle.enumerator.specs.declared.answers.End.{End}
-use Rattle.enumerator.specs.declared.answers.End.TheVariants.{Finished, LimitReached, Conflicts}
+use Rattle.enumerator.specs.declared.answers.End.TheVariants.{Finished, LimitReached, Conflicts, TermTooLarge}
 use Rattle.enumerator.specs.declared.answers.SearchFault.{SearchFault}
 use Rattle.enumerator.specs.declared.answers.SearchFault.TheVariants.{WriteFault, TraceFault, OutOfMemory}
 
@@ -30,39 +34,60 @@ pub record TraceChange : Type 0 where
   pub faults : ℕ
   pub faults' : ℕ
 
+-- ---- lines
+
+-- the line of the atoms of the program in a core answer set
+pub record IsCoreSetLine (core : Core) (line : List ℕ) : Type 0 where
+  pub set : List Atom
+  pub once : HasNoRepeats set
+  pub has_core_sets : HasCoreSets core set
+  pub is : IsSetLine set line
+
+-- lines of core answer sets, no two of them equal
+pub record AreCoreSetLines (core : Core) (lines : List (List ℕ)) : Type 0 where
+  pub each : Each (IsCoreSetLine core) lines
+  pub once : HasNoRepeats lines
+  pub whole : Each IsBraceLine lines
+
+-- every core answer set has its line among these
+abbrev pub HaveAllOf : Core → List (List ℕ) → Type 0
+HaveAllOf core lines = (I : List Atom) → HasNoRepeats I → HasCoreSets core I → (line : List ℕ) × (line ∈ lines) × IsSetLine I line
+
+-- ---- what is written and told
+
 -- a legal journal was told, and the lines of the answer sets that it shows are these, in the order in which they were shown
-pub record Journaled (P : List Statement) (trace : TraceChange) (lines : List (List ℕ)) : Type 0 where
+pub record Journaled (core : Core) (trace : TraceChange) (lines : List (List ℕ)) : Type 0 where
   pub journal : List Step
-  pub legal : Legal (plain_rules P) [] journal
-  pub tells : Tells (plain_rules P) trace.told trace.told' journal
-  pub shown : AreLinesOf (replay (plain_rules P) journal) (reverse (State.shown (replay (plain_rules P) journal))) lines
+  pub legal : Legal (search_rules core) [] journal
+  pub tells : Tells core trace.told trace.told' journal
+  pub shown : AreLinesOf (replay (search_rules core) journal) (reverse (State.shown (replay (search_rules core) journal))) lines
 
 -- these lines were written, which are those of answer sets, as the journal says
-pub record Wrote (P : List Statement) (sink : SinkChange) (trace : TraceChange) : Type 0 where
+pub record Wrote (core : Core) (sink : SinkChange) (trace : TraceChange) : Type 0 where
   pub lines : List (List ℕ)
   pub bytes : Appends sink.held sink.held' (concat lines)
-  pub sets : AreAnswerSetLines P lines
-  pub journaled : Journaled P trace lines
+  pub sets : AreCoreSetLines core lines
+  pub journaled : Journaled core trace lines
 
 -- and then a front of the line of another answer set, which isn't in the journal
-pub record WroteFront (P : List Statement) (sink : SinkChange) (trace : TraceChange) : Type 0 where
+pub record WroteFront (core : Core) (sink : SinkChange) (trace : TraceChange) : Type 0 where
   pub lines : List (List ℕ)
   pub next : List ℕ
   pub cut : ℕ
   pub bytes : Appends sink.held sink.held' (concat lines ++ take cut next)
-  pub sets : AreAnswerSetLines P lines
-  pub journaled : Journaled P trace lines
-  pub next_set : IsAnswerSetLine P next
+  pub sets : AreCoreSetLines core lines
+  pub journaled : Journaled core trace lines
+  pub next_set : IsCoreSetLine core next
   pub next_whole : IsBraceLine next
   pub next_new : ¬ (next ∈ lines)
 
 -- or the whole line of another one
-pub record WroteOneMore (P : List Statement) (sink : SinkChange) (trace : TraceChange) : Type 0 where
+pub record WroteOneMore (core : Core) (sink : SinkChange) (trace : TraceChange) : Type 0 where
   pub lines : List (List ℕ)
   pub next : List ℕ
   pub bytes : Appends sink.held sink.held' (concat (lines ++ next ∷ []))
-  pub sets : AreAnswerSetLines P (lines ++ next ∷ [])
-  pub journaled : Journaled P trace lines
+  pub sets : AreCoreSetLines core (lines ++ next ∷ [])
+  pub journaled : Journaled core trace lines
 
 -- fewer lines than the limit were written, and no more nogoods were noted as struck than the budget allows
 pub record IsWithin (settings : Settings) (lines : List (List ℕ)) (journal : List Step) : Type 0 where
@@ -70,22 +95,24 @@ pub record IsWithin (settings : Settings) (lines : List (List ℕ)) (journal : L
   pub struck : strikes journal ≤ settings.conflicts
 
 -- how a search ends by itself, after these lines and this journal: at the limit exactly where as many lines were written
-abbrev pub EndIs : List Statement → Settings → List (List ℕ) → List Step → End → Type 0
-EndIs P settings lines journal (Finished printed) = (printed ≡ length lines) × IsWithin settings lines journal × HaveAll P lines
-EndIs P settings lines journal (LimitReached printed) = (printed ≡ length lines) × (settings.limit ≡ length lines) × (strikes journal ≤ settings.conflicts)
-EndIs P settings lines journal (Conflicts printed) =
-    (printed ≡ length lines) × IsWithin settings lines journal × (strikes journal ≡ settings.conflicts) × SomeStruck (replay (plain_rules P) journal)
+abbrev pub EndIs : Core → Settings → List (List ℕ) → List Step → End → Type 0
+EndIs core settings lines journal (Finished printed) = (printed ≡ length lines) × IsWithin settings lines journal × HaveAllOf core lines
+EndIs core settings lines journal (LimitReached printed) = (printed ≡ length lines) × (settings.limit ≡ length lines) × (strikes journal ≤ settings.conflicts)
+EndIs core settings lines journal (Conflicts printed) =
+    (printed ≡ length lines) × IsWithin settings lines journal × (strikes journal ≡ settings.conflicts) × SomeStruck (replay (search_rules core) journal)
+EndIs core settings lines journal (TermTooLarge line size printed) =
+    (printed ≡ length lines) × IsWithin settings lines journal × IsTooLarge core (replay (search_rules core) journal) line size
 
 -- lines within the limit and the budget, or one more, which isn't in the journal: what is written where a note fails or memory is wanting
-abbrev pub WroteSome : List Statement → Settings → SinkChange → TraceChange → Type 0
-WroteSome P settings sink trace =
-    ((wrote : Wrote P sink trace) × IsWithin settings wrote.lines wrote.journaled.journal)
-    ⊎ ((wrote : WroteOneMore P sink trace) × IsWithin settings wrote.lines wrote.journaled.journal)
+abbrev pub WroteSome : Core → Settings → SinkChange → TraceChange → Type 0
+WroteSome core settings sink trace =
+    ((wrote : Wrote core sink trace) × IsWithin settings wrote.lines wrote.journaled.journal)
+    ⊎ ((wrote : WroteOneMore core sink trace) × IsWithin settings wrote.lines wrote.journaled.journal)
 
 -- a search ends by itself having written what it says; a fault of writing or tracing comes only where the object's count rose
-abbrev pub SearchAnswer : List Statement → Settings → SinkChange → TraceChange → Result End SearchFault → Type 0
-SearchAnswer P settings sink trace (Ok end) = (wrote : Wrote P sink trace) × EndIs P settings wrote.lines wrote.journaled.journal end
-SearchAnswer P settings sink trace (Err WriteFault) =
-    Rose sink.faults sink.faults' × ((wrote : WroteFront P sink trace) × IsWithin settings wrote.lines wrote.journaled.journal)
-SearchAnswer P settings sink trace (Err TraceFault) = Rose trace.faults trace.faults' × WroteSome P settings sink trace
-SearchAnswer P settings sink trace (Err OutOfMemory) = WroteSome P settings sink trace
+abbrev pub SearchAnswer : Core → Settings → SinkChange → TraceChange → Result End SearchFault → Type 0
+SearchAnswer core settings sink trace (Ok end) = (wrote : Wrote core sink trace) × EndIs core settings wrote.lines wrote.journaled.journal end
+SearchAnswer core settings sink trace (Err WriteFault) =
+    Rose sink.faults sink.faults' × ((wrote : WroteFront core sink trace) × IsWithin settings wrote.lines wrote.journaled.journal)
+SearchAnswer core settings sink trace (Err TraceFault) = Rose trace.faults trace.faults' × WroteSome core settings sink trace
+SearchAnswer core settings sink trace (Err OutOfMemory) = WroteSome core settings sink trace

@@ -8,7 +8,7 @@ use Rattle.search_theory.specs.Nogoods.{Nogood, IsStruck}
 use Rattle.search_theory.specs.States as phase
 use Rattle.search_theory.specs.Events.{How, Decisions, Enumerated, Analysed, Justified, phase_struck, phase_learned, lits_at}
 use Rattle.ground_search.specs.Searching.{Searching, jump_of}
-use Rattle.enumerator.specs.Standing.{BodiesAreMade, StackIsPlaced, IsFirm, IsReady, Carries, Given, Fits, Stands, Ends, Leaves}
+use Rattle.enumerator.specs.Standing.{IsKept, IsFirm, IsReady, Carries, Given, Fits, Stands, Ends, Leaves}
 use Rattle.enumerator.specs.Moves.{MoveIs}
 use Rattle.enumerator.specs.declared.moves.Move.TheVariants as move
 use Rattle.enumerator.specs.declared.settle.Finish.{Finish}
@@ -16,11 +16,6 @@ use Rattle.enumerator.specs.declared.settle.Finish.TheVariants as finish
 use Rattle.enumerator.specs.declared.answers.End.{End}
 use Rattle.enumerator.specs.declared.answers.End.TheVariants as end
 use Rattle.enumerator.specs.declared.answers.SearchFault.{SearchFault}
-
--- what a search keeps while the literals chosen are learned
-pub record IsKept (v : Searching) : Type 0 where
-  pub bodies : BodiesAreMade v
-  pub placed : StackIsPlaced v
 
 -- ---- the steps
 
@@ -45,7 +40,7 @@ MayStrikeNow v n = ((v.phase ≡ phase.Free) × ((ng : Nogood) × (slice_get v.n
 
 -- after a struck nogood or a stuck atom, or after a set that was found while literals were chosen
 abbrev pub MayLearnNow : Searching → How → Type 0
-MayLearnNow v Decisions = IsFirm v × ((v.phase ≡ phase.MustLearn) ⊎ ((v.phase ≡ phase.Free) × MoveIs v move.Stuck))
+MayLearnNow v Decisions = IsFirm v × ((v.phase ≡ phase.MustLearn) ⊎ (IsReady v × MoveIs v move.Stuck))
 MayLearnNow v Enumerated = IsFirm v × ((v.phase ≡ phase.Found) × (¬ (chosen v.stack ≡ [])))
 MayLearnNow v Analysed = ⊥
 MayLearnNow v Justified = ⊥
@@ -60,6 +55,7 @@ pub record IsLearned (v : Searching) : Type 0 where
 pub record IsFound (v : Searching) : Type 0 where
   pub kept : IsKept v
   pub firm : IsFirm v
+  pub all_looked : length v.positives ≡ length v.core.rules
   pub phase_is : v.phase ≡ phase.Found
 
 -- ---- what they leave
@@ -77,7 +73,7 @@ Settled v v' told told' rest rest' (Some how) =
 
 -- the literals chosen were learned, and the search is ready again
 pub record Again (v v' : Searching) : Type 0 where
-  pub program : v'.program ≡ v.program
+  pub core : v'.core ≡ v.core
   pub ready : IsReady v'
   pub learned : v'.nogoods ≡ v.nogoods ++ chosen_nogood v ∷ []
   pub some : ¬ (chosen v.stack ≡ [])
@@ -116,3 +112,4 @@ abbrev pub ended : Finish → ℕ → End
 ended finish.Finished printed = end.Finished printed
 ended finish.LimitReached printed = end.LimitReached printed
 ended finish.Conflicts printed = end.Conflicts printed
+ended (finish.TermTooLarge line size) printed = end.TermTooLarge line size printed

@@ -1,10 +1,9 @@
-//! The inner loop: steps until a nogood is struck, an atom stays must-be-true, or a set is found.
+//! The inner loop: steps until a nogood is struck, an atom stays must-be-true, a set is found, or a term is too large.
 
-ghost use Rattle.std.specs.Prelude.{◌≤◌, ◌<◌, OnOk, IfErr, IfOk};
+ghost use Rattle.std.specs.Prelude.{◌≤◌, OnOk, IfErr, IfOk};
 ghost use Rattle.enumerator.specs.Standing.{IsReady, IsTraceFault};
 ghost use Rattle.enumerator.specs.Moves.{MoveIs, IsHalt};
-ghost use Rattle.enumerator.specs.Runs.{Runs};
-ghost use Rattle.enumerator.specs.Measures.{work_left};
+ghost use Rattle.enumerator.specs.Runs.{Runs, Stepped};
 
 use crate::answers::SearchFault;
 use crate::making::make;
@@ -14,19 +13,18 @@ use alpha_outside::Trace;
 use ground_search::Search;
 use std::alloc::Global;
 
-// Takes the step that comes next.
+// Takes the step that comes next. It may bring the search to a halt.
 fn step<T: Trace>(
     search: &mut Search,
     alloc: Global,
     trace: &mut T,
     found: &Move,
-) -> Result<(), SearchFault>
+) -> Result<Option<Move>, SearchFault>
     requires ready { IsReady search.old }
     requires next { MoveIs search.old found.now }
     requires goes_on { ¬ IsHalt found.now }
     ensures later { T.faults trace.old ≤ T.faults trace.new }
-    ensures ok { OnOk result (Runs search.old search.new (T.journal trace.old) (T.journal trace.new)) }
-    ensures less { OnOk result (work_left search.new < work_left search.old) }
+    ensures ok { IfOk result (Stepped search.old search.new (T.journal trace.old) (T.journal trace.new)) }
     ensures err { IfErr result (IsTraceFault search.old (T.journal trace.old) (T.journal trace.new) (T.faults trace.old) (T.faults trace.new)) }
 {
     match found {
@@ -35,12 +33,13 @@ fn step<T: Trace>(
         Move::Choose(body) => choose(search, trace, *body),
         Move::Close(atom) => close(search, trace, *atom),
         Move::Strike(_) => unreachable!(),
+        Move::TooLarge(_, _) => unreachable!(),
         Move::Stuck => unreachable!(),
         Move::Full => unreachable!(),
     }
 }
 
-/// Goes on until the literals chosen are to be learned, and says why.
+/// Goes on until the search comes to a halt, and says why.
 pub fn advance<T: Trace>(
     search: &mut Search,
     alloc: Global,
@@ -58,6 +57,8 @@ pub fn advance<T: Trace>(
         if is_halt(&found) {
             return Ok(found);
         }
-        step(search, alloc, trace, &found)?;
+        if let Some(halt) = step(search, alloc, trace, &found)? {
+            return Ok(halt);
+        }
     }
 }

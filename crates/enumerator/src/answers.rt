@@ -5,7 +5,7 @@ pub struct Settings {
     pub limit: u64,
     /// The most nogoods that are noted as struck.
     pub conflicts: u64,
-    /// A budget of instances, which nothing reads: no more are made than the program has statements.
+    /// A budget of instances, which nothing reads yet: no more are made than the core has rules.
     pub instances: u64,
 }
 
@@ -18,6 +18,9 @@ pub enum End {
     LimitReached { printed: u64 },
     /// As many nogoods were noted as struck as the budget allows, and one more is struck.
     Conflicts { printed: u64 },
+    /// A rule of this line, whose positive atoms are all true or must-be-true, has a term of so many symbols, which are more than
+    /// 1,048,576.
+    TermTooLarge { line: u32, size: u64, printed: u64 },
 }
 
 /// Why a search stopped.

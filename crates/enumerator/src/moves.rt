@@ -22,6 +22,8 @@ pub enum Move {
     Choose(AtomId),
     /// The atom is unassigned where the state is settled.
     Close(AtomId),
+    /// A rule of this line that is due has a term of so many symbols, which are too many.
+    TooLarge(u32, u64),
     /// A named atom stays must-be-true.
     Stuck,
     /// A set is found.
@@ -84,5 +86,8 @@ pub fn is_halt(found: &Move) -> bool
     ensures yes { result ≡ true → IsHalt found.now }
     ensures no { result ≡ false → ¬ IsHalt found.now }
 {
-    matches!(found, Move::Strike(_) | Move::Stuck | Move::Full)
+    matches!(
+        found,
+        Move::Strike(_) | Move::TooLarge(_, _) | Move::Stuck | Move::Full
+    )
 }

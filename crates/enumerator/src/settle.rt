@@ -5,9 +5,9 @@ ghost use Rattle.std.specs.Prelude.{◌≡◌, ◌≤◌, ◌<◌, ◌+◌, ◌^
 ghost use Rattle.search_theory.specs.Values.{chosen};
 ghost use Rattle.search_theory.specs.States as phase;
 ghost use Rattle.ground_search.specs.Searching.{ids};
-ghost use Rattle.enumerator.specs.Standing.{IsReady, IsTraceFault, IsRoundFault, Carries, Fits, Given, Stands, Leaves};
+ghost use Rattle.enumerator.specs.Standing.{IsKept, IsReady, IsTraceFault, IsRoundFault, Carries, Fits, Given, Stands, Leaves};
 ghost use Rattle.enumerator.specs.Moves.{MoveIs, IsHalt};
-ghost use Rattle.enumerator.specs.Settling.{IsKept, MayStrikeNow, MayLearnNow, IsLearned, struck_by, learned_by, gone_back, Carried, Settled, Rounds, Outcome, IsFound};
+ghost use Rattle.enumerator.specs.Settling.{MayStrikeNow, MayLearnNow, IsLearned, struck_by, learned_by, gone_back, Carried, Settled, Rounds, Outcome, IsFound};
 
 use crate::answers::SearchFault;
 use crate::moves::Move;
@@ -25,6 +25,8 @@ pub enum Finish {
     LimitReached,
     /// As many nogoods were struck as the budget allows, and one more is struck.
     Conflicts,
+    /// A rule of this line that is due has a term of so many symbols, which are too many.
+    TermTooLarge(u32, u64),
 }
 
 // Notes the nogood as struck.
@@ -55,7 +57,7 @@ fn learn<T: Trace>(
     ensures carries { OnOk result (Carried search.old search.new (T.journal trace.old) (T.journal trace.new) 0) }
     ensures err { IfErr result (IsTraceFault search.old (T.journal trace.old) (T.journal trace.new) (T.faults trace.old) (T.faults trace.new)) }
 {
-    let Ok(chosen) = search.chosen(alloc) else {
+    let Ok(chosen) = search.chosen() else {
         return Err(SearchFault::OutOfMemory);
     };
     let Ok(nogood) = search.learn(chosen.as_slice()) else {
@@ -104,7 +106,6 @@ fn is_over(search: &Search) -> bool
 // Writes the line of the set found, and notes the set.
 fn show<O: Sink, T: Trace>(
     search: &mut Search,
-    alloc: Global,
     out: &mut O,
     trace: &mut T,
 ) -> Result<(), SearchFault>
@@ -117,10 +118,10 @@ fn show<O: Sink, T: Trace>(
     ensures err { IfErr result (λ f. (g : Given) → Fits g search.old → (left rest : ℕ) → 0 < left → Stands g search.old (T.journal trace.old) (O.held out.old) left rest
         → Leaves g (T.journal trace.new) (O.held out.new) (O.faults out.old, O.faults out.new) (T.faults trace.old, T.faults trace.new) f) }
 {
-    let Ok(ids) = search.true_atoms(alloc) else {
+    let Ok(ids) = search.true_atoms() else {
         return Err(SearchFault::OutOfMemory);
     };
-    let Ok(line) = search.set_line(alloc, ids.as_slice()) else {
+    let Ok(line) = search.set_line(ids.as_slice()) else {
         return Err(SearchFault::OutOfMemory);
     };
     match out.write(line.as_slice()) {
@@ -217,7 +218,7 @@ fn settle_shown<T: Trace>(
     if left == 0 {
         return Ok(Some(Finish::LimitReached));
     }
-    let Ok(chosen) = search.chosen(alloc) else {
+    let Ok(chosen) = search.chosen() else {
         return Err(SearchFault::OutOfMemory);
     };
     if chosen.is_empty() {
@@ -252,10 +253,11 @@ pub fn settle<O: Sink, T: Trace>(
         Move::Strike(nogood) => settle_struck(search, alloc, trace, nogood, rest),
         Move::Stuck => settle_stuck(search, alloc, trace, rest),
         Move::Full => {
-            show(search, alloc, out, trace)?;
+            show(search, out, trace)?;
             *left -= 1;
             settle_shown(search, alloc, trace, *left)
         }
+        Move::TooLarge(line, size) => Ok(Some(Finish::TermTooLarge(line, size))),
         _ => unreachable!(),
     }
 }

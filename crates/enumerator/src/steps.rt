@@ -1,11 +1,10 @@
 //! The steps that a search takes before the literals chosen are learned. Each changes the search, and then is noted.
 
-ghost use Rattle.std.specs.Prelude.{◌≡◌, ◌≤◌, ◌<◌, OnOk, IfErr, option_map};
+ghost use Rattle.std.specs.Prelude.{◌≡◌, ◌≤◌, OnOk, IfOk, IfErr, option_map};
 ghost use Rattle.alpha_outside.specs.Outside.{with_event};
 ghost use Rattle.enumerator.specs.Standing.{IsTraceCause, IsReady, IsTraceFault};
 ghost use Rattle.enumerator.specs.Moves.{MoveIs};
-ghost use Rattle.enumerator.specs.Runs.{Runs};
-ghost use Rattle.enumerator.specs.Measures.{work_left};
+ghost use Rattle.enumerator.specs.Runs.{Stepped};
 
 use crate::answers::SearchFault;
 use crate::moves::Move;
@@ -33,40 +32,48 @@ pub fn put<T: Trace>(
     by: NogoodId,
     atom: AtomId,
     value: Value,
-) -> Result<(), SearchFault>
+) -> Result<Option<Move>, SearchFault>
     requires ready { IsReady search.old }
     requires next { MoveIs search.old (Move.Put by atom value) }
     ensures later { T.faults trace.old ≤ T.faults trace.new }
-    ensures ok { OnOk result (Runs search.old search.new (T.journal trace.old) (T.journal trace.new)) }
-    ensures less { OnOk result (work_left search.new < work_left search.old) }
+    ensures ok { IfOk result (Stepped search.old search.new (T.journal trace.old) (T.journal trace.new)) }
     ensures err { IfErr result (IsTraceFault search.old (T.journal trace.old) (T.journal trace.new) (T.faults trace.old) (T.faults trace.new)) }
 {
     search.put(atom, value, by);
-    noted(trace, &Event::Put { atom, value, by })
+    noted(trace, &Event::Put { atom, value, by })?;
+    Ok(None)
 }
 
 /// Decides that the body holds.
-pub fn choose<T: Trace>(search: &mut Search, trace: &mut T, body: AtomId) -> Result<(), SearchFault>
+pub fn choose<T: Trace>(
+    search: &mut Search,
+    trace: &mut T,
+    body: AtomId,
+) -> Result<Option<Move>, SearchFault>
     requires ready { IsReady search.old }
     requires next { MoveIs search.old (Move.Choose body) }
     ensures later { T.faults trace.old ≤ T.faults trace.new }
-    ensures ok { OnOk result (Runs search.old search.new (T.journal trace.old) (T.journal trace.new)) }
-    ensures less { OnOk result (work_left search.new < work_left search.old) }
+    ensures ok { IfOk result (Stepped search.old search.new (T.journal trace.old) (T.journal trace.new)) }
     ensures err { IfErr result (IsTraceFault search.old (T.journal trace.old) (T.journal trace.new) (T.faults trace.old) (T.faults trace.new)) }
 {
     search.choose(body);
-    noted(trace, &Event::Chosen { body, up: true })
+    noted(trace, &Event::Chosen { body, up: true })?;
+    Ok(None)
 }
 
 /// Sets the atom false.
-pub fn close<T: Trace>(search: &mut Search, trace: &mut T, atom: AtomId) -> Result<(), SearchFault>
+pub fn close<T: Trace>(
+    search: &mut Search,
+    trace: &mut T,
+    atom: AtomId,
+) -> Result<Option<Move>, SearchFault>
     requires ready { IsReady search.old }
     requires next { MoveIs search.old (Move.Close atom) }
     ensures later { T.faults trace.old ≤ T.faults trace.new }
-    ensures ok { OnOk result (Runs search.old search.new (T.journal trace.old) (T.journal trace.new)) }
-    ensures less { OnOk result (work_left search.new < work_left search.old) }
+    ensures ok { IfOk result (Stepped search.old search.new (T.journal trace.old) (T.journal trace.new)) }
     ensures err { IfErr result (IsTraceFault search.old (T.journal trace.old) (T.journal trace.new) (T.faults trace.old) (T.faults trace.new)) }
 {
     search.close(atom);
-    noted(trace, &Event::Closed { atom })
+    noted(trace, &Event::Closed { atom })?;
+    Ok(None)
 }

@@ -1,30 +1,47 @@
-ghost use Rattle.std.specs.Prelude.{◌<◌, IfOk};
-ghost use Rattle.asp_meaning.specs.Horn.{IsProposition, IsHornHead};
+ghost use Rattle.std.specs.Prelude.{◌≡◌, ◌↔◌, ◌<◌, [], None, false, IfOk};
+ghost use Rattle.lists.specs.Lists.{Each};
+ghost use Rattle.alpha_outside.specs.declared.kinds.RuleKind.TheVariants.{Constraint};
 ghost use Rattle.asp_syntax.specs.WellFormed.{IsId};
-ghost use Rattle.plain_rules.specs.Plain.{IsPlain, IsPlainItem, IsPlainProgram};
+ghost use Rattle.core_rules.specs.CoreForm.{IsFitting, HasNoArithmetic, IsHead, IsRuleForm};
+ghost use Rattle.core_rules.specs.Names.{IsNamedAtom, IsNamedHead, IsNamedRule, IsNamedTerm};
+ghost use Rattle.core_rules.specs.Variables.{has_arithmetic, variables, atom_variables, head_variables};
+ghost use Rattle.search_rules.specs.Stage.{IsGroundRule, IsGroundCore, head_terms};
 
-use crate::{End, SearchFault, Settings, search_plain};
-use alpha_outside::{Event, List, MemSink, MemTrace, Name, OutOfMemory};
-use asp_syntax::{Atom, Head, Item, Literal, Program, Statement};
+use crate::{End, SearchFault, Settings, search};
+use alpha_outside::{Event, List, MemSink, MemTrace, Name, OutOfMemory, Pred, RuleKind};
+use core_rules::{Core, CoreAtom, CoreRule, CoreTerm};
 use std::alloc::Global;
 use std::test::Fail;
 
-// The name of an atom.
+// An atom: `a`, `b`, `p(f(1))`, `q("a b",-2)` or `-r(g)`.
 #[derive(Clone, Copy)]
 enum Letter {
     A,
     B,
+    P,
+    Q,
+    R,
 }
 
-use Letter::{A, B};
+use Letter::{A, B, P, Q, R};
 
-// A statement with one literal in its body: its head where it has one, whether the literal is under `not`, and the literal's atom.
-type Line = (Option<Letter>, bool, Letter);
+// What stands in the head of a rule.
+#[derive(Clone, Copy)]
+enum Top {
+    Fact(Letter),
+    Chosen(Letter),
+    Nothing,
+}
 
-// One search: its statements, how far it may go, which writes to the sink fail, having taken how much, and which notes fail.
+use Top::{Chosen, Fact, Nothing};
+
+// A rule: its head, its positive atoms and its negative atoms.
+type Line<'a> = (Top, &'a [Letter], &'a [Letter]);
+
+// One search: its rules, how far it may go, which writes to the sink fail, having taken how much, and which notes fail.
 #[derive(Clone, Copy)]
 struct Case<'a> {
-    lines: &'a [Line],
+    lines: &'a [Line<'a>],
     limit: u64,
     conflicts: u64,
     failing: &'a [u64],
@@ -32,62 +49,145 @@ struct Case<'a> {
     untraced: &'a [u64],
 }
 
-fn atom(alloc: Global, letter: Letter) -> Result<Atom, OutOfMemory>
-    ensures { IfOk result IsProposition }
+// The term `f(1)`.
+fn call(alloc: Global) -> Result<CoreTerm, OutOfMemory>
+    ensures { IfOk result (λ t. (has_arithmetic t ≡ false) × IsNamedTerm t × (variables t ≡ [])) }
 {
-    let name = match letter {
-        A => Name::from_bytes(alloc, b"a")?,
-        B => Name::from_bytes(alloc, b"b")?,
-    };
-    Ok(Atom {
-        negated: false,
-        name,
+    let name = Name::from_bytes(alloc, b"f")?;
+    let mut args = List::new(alloc);
+    args.push(CoreTerm::Int(1))?;
+    Ok(CoreTerm::Fun(name, args))
+}
+
+// The atom of that name without arguments.
+fn bare(alloc: Global, name: &[u8]) -> Result<CoreAtom, OutOfMemory>
+    requires { IsId name.now }
+    ensures { IfOk result (λ a. IsFitting [] a × HasNoArithmetic a × IsNamedAtom a × (atom_variables a ≡ [])) }
+{
+    let name = Name::from_bytes(alloc, name)?;
+    Ok(CoreAtom {
+        pred: Pred::User {
+            negated: false,
+            name,
+            arity: 0,
+        },
         args: List::new(alloc),
     })
 }
 
-fn head_of(alloc: Global, letter: Option<Letter>) -> Result<Head, OutOfMemory>
-    ensures { IfOk result IsHornHead }
+fn p_atom(alloc: Global) -> Result<CoreAtom, OutOfMemory>
+    ensures { IfOk result (λ a. IsFitting [] a × HasNoArithmetic a × IsNamedAtom a × (atom_variables a ≡ [])) }
 {
-    match letter {
-        Some(letter) => Ok(Head::Single(atom(alloc, letter)?)),
-        None => Ok(Head::Absent),
-    }
-}
-
-fn item(alloc: Global, denied: bool, letter: Letter) -> Result<Item, OutOfMemory>
-    ensures { IfOk result IsPlainItem }
-{
-    let atom = atom(alloc, letter)?;
-    if denied {
-        Ok(Item::Plain(Literal::Negative(atom)))
-    } else {
-        Ok(Item::Plain(Literal::Positive(atom)))
-    }
-}
-
-fn statement(alloc: Global, line: Line) -> Result<Statement, OutOfMemory>
-    ensures { IfOk result IsPlain }
-{
-    let (letter, denied, of) = line;
-    let head = head_of(alloc, letter)?;
-    let mut body = List::new(alloc);
-    body.push(item(alloc, denied, of)?)?;
-    Ok(Statement {
-        line: 1,
-        head,
-        body,
+    let name = Name::from_bytes(alloc, b"p")?;
+    let mut args = List::new(alloc);
+    args.push(call(alloc)?)?;
+    Ok(CoreAtom {
+        pred: Pred::User {
+            negated: false,
+            name,
+            arity: 1,
+        },
+        args,
     })
 }
 
-fn program(alloc: Global, lines: &[Line]) -> Result<Program, OutOfMemory>
-    ensures { IfOk result (λ p. IsPlainProgram p.statements) }
+fn q_atom(alloc: Global) -> Result<CoreAtom, OutOfMemory>
+    ensures { IfOk result (λ a. IsFitting [] a × HasNoArithmetic a × IsNamedAtom a × (atom_variables a ≡ [])) }
 {
-    let mut statements = List::new(alloc);
-    for line in lines {
-        statements.push(statement(alloc, *line)?)?;
+    let name = Name::from_bytes(alloc, b"q")?;
+    let mut args = List::new(alloc);
+    args.push(CoreTerm::Text(Name::from_bytes(alloc, b"a b")?))?;
+    args.push(CoreTerm::Int(-2))?;
+    Ok(CoreAtom {
+        pred: Pred::User {
+            negated: false,
+            name,
+            arity: 2,
+        },
+        args,
+    })
+}
+
+fn r_atom(alloc: Global) -> Result<CoreAtom, OutOfMemory>
+    ensures { IfOk result (λ a. IsFitting [] a × HasNoArithmetic a × IsNamedAtom a × (atom_variables a ≡ [])) }
+{
+    let name = Name::from_bytes(alloc, b"r")?;
+    let mut args = List::new(alloc);
+    args.push(CoreTerm::Symbol(Name::from_bytes(alloc, b"g")?))?;
+    Ok(CoreAtom {
+        pred: Pred::User {
+            negated: true,
+            name,
+            arity: 1,
+        },
+        args,
+    })
+}
+
+fn atom(alloc: Global, letter: Letter) -> Result<CoreAtom, OutOfMemory>
+    ensures { IfOk result (λ a. IsFitting [] a × HasNoArithmetic a × IsNamedAtom a × (atom_variables a ≡ [])) }
+{
+    match letter {
+        A => bare(alloc, b"a"),
+        B => bare(alloc, b"b"),
+        P => p_atom(alloc),
+        Q => q_atom(alloc),
+        R => r_atom(alloc),
     }
-    Ok(Program { statements })
+}
+
+fn atoms(alloc: Global, letters: &[Letter]) -> Result<List<CoreAtom>, OutOfMemory>
+    ensures { IfOk result (Each (λ a. IsFitting [] a × HasNoArithmetic a × IsNamedAtom a × (atom_variables a ≡ []))) }
+{
+    let mut atoms = List::new(alloc);
+    for letter in letters {
+        atoms.push(atom(alloc, *letter)?)?;
+    }
+    Ok(atoms)
+}
+
+// The kind of a rule with this head, and the head.
+fn head(alloc: Global, top: Top) -> Result<(RuleKind, Option<CoreAtom>), OutOfMemory>
+    ensures fits { IfOk result (λ h. IsHead [] h.1 × IsNamedHead h.1 × Each (λ t. has_arithmetic t ≡ false) (head_terms h.1) × (head_variables h.1 ≡ [])) }
+    ensures kind { IfOk result (λ h. (h.1 ≡ None) ↔ (h.0 ≡ Constraint)) }
+{
+    match top {
+        Fact(letter) => Ok((RuleKind::Plain, Some(atom(alloc, letter)?))),
+        Chosen(letter) => Ok((RuleKind::Choice, Some(atom(alloc, letter)?))),
+        Nothing => Ok((RuleKind::Constraint, None)),
+    }
+}
+
+fn rule(alloc: Global, line: Line<'_>) -> Result<CoreRule, OutOfMemory>
+    ensures { IfOk result (λ r. IsRuleForm [] r × IsNamedRule r × IsGroundRule r) }
+{
+    let (top, pos, neg) = line;
+    let (kind, head) = head(alloc, top)?;
+    let pos = atoms(alloc, pos)?;
+    let neg = atoms(alloc, neg)?;
+    Ok(CoreRule {
+        kind,
+        head,
+        pos,
+        neg,
+        tests: List::new(alloc),
+        defined: List::new(alloc),
+        variables: 0,
+        line: 1,
+    })
+}
+
+fn core(alloc: Global, lines: &[Line<'_>]) -> Result<Core, OutOfMemory>
+    ensures { IfOk result IsGroundCore }
+{
+    let mut rules = List::new(alloc);
+    for line in lines {
+        rules.push(rule(alloc, *line)?)?;
+    }
+    Ok(Core {
+        rules,
+        aggregates: List::new(alloc),
+    })
 }
 
 // How a search ended, in a word.
@@ -96,6 +196,7 @@ fn word(answer: &Result<End, SearchFault>) -> &'static str {
         Ok(End::Finished { .. }) => "finished",
         Ok(End::LimitReached { .. }) => "limit",
         Ok(End::Conflicts { .. }) => "conflicts",
+        Ok(End::TermTooLarge { .. }) => "term too large",
         Err(SearchFault::WriteFault) => "write fault",
         Err(SearchFault::TraceFault) => "trace fault",
         Err(SearchFault::OutOfMemory) => "out of memory",
@@ -108,6 +209,7 @@ fn printed(answer: &Result<End, SearchFault>) -> u64 {
         Ok(End::Finished { printed }) => *printed,
         Ok(End::LimitReached { printed }) => *printed,
         Ok(End::Conflicts { printed }) => *printed,
+        Ok(End::TermTooLarge { printed, .. }) => *printed,
         Err(_) => 0,
     }
 }
@@ -129,27 +231,63 @@ fn searched(alloc: Global, case: &Case<'_>) -> Result<String, Fail>
         conflicts: case.conflicts,
         instances: 1_000,
     };
-    let program = program(alloc, case.lines)?;
+    let core = core(alloc, case.lines)?;
     let mut out = MemSink::new(alloc, List::from_slice(alloc, case.failing)?, case.cut);
     let mut trace = MemTrace::new(alloc, List::from_slice(alloc, case.untraced)?);
-    let answer = search_plain(alloc, program, settings, &mut out, &mut trace);
+    let answer = search(alloc, core, settings, &mut out, &mut trace);
     let bytes = std::str::from_utf8(out.bytes()).unwrap_or("no text");
     let sets = shown(trace.events());
     Ok(format!(in alloc; "{} {}|{bytes}|{sets}", word(&answer), printed(&answer))?)
 }
 
 // `a :- not b. b :- not a.`
-const EACH_BLOCKS_THE_OTHER: [Line; 2] = [(Some(A), true, B), (Some(B), true, A)];
+const EACH_BLOCKS_THE_OTHER: [Line<'static>; 2] = [(Fact(A), &[], &[B]), (Fact(B), &[], &[A])];
 
 // `a :- not a.`
-const DENIES_ITSELF: [Line; 1] = [(Some(A), true, A)];
+const DENIES_ITSELF: [Line<'static>; 1] = [(Fact(A), &[], &[A])];
 
 // `a :- b. b :- a. :- not a.`
-const SUPPORTS_ITSELF: [Line; 3] = [(Some(A), false, B), (Some(B), false, A), (None, true, A)];
+const SUPPORTS_ITSELF: [Line<'static>; 3] = [
+    (Fact(A), &[B], &[]),
+    (Fact(B), &[A], &[]),
+    (Nothing, &[], &[A]),
+];
+
+// `:- not a. a :- a.`
+const WANTS_SUPPORT: [Line<'static>; 2] = [(Nothing, &[], &[A]), (Fact(A), &[A], &[])];
+
+// `p(f(1)). q("a b",-2) :- p(f(1)), not -r(g).`
+const HAS_TERMS: [Line<'static>; 2] = [(Fact(P), &[], &[]), (Fact(Q), &[P], &[R])];
+
+// `{ -r(g) }. :- not -r(g).`
+const CHOSEN_AND_WANTED: [Line<'static>; 2] = [(Chosen(R), &[], &[]), (Nothing, &[], &[R])];
+
+// `a. :- a.`
+const BROKEN: [Line<'static>; 2] = [(Fact(A), &[], &[]), (Nothing, &[A], &[])];
+
+// `a :- not b. b :- not a. :- b.`
+const ONE_IS_OUT: [Line<'static>; 3] = [
+    (Fact(A), &[], &[B]),
+    (Fact(B), &[], &[A]),
+    (Nothing, &[B], &[]),
+];
 
 #[test]
-fn what_denies_or_supports_only_itself_is_in_no_set(rt: HostRuntime) -> Result<(), Fail> {
-    for lines in [DENIES_ITSELF.as_slice(), SUPPORTS_ITSELF.as_slice()] {
+fn what_is_in_the_sets(rt: HostRuntime) -> Result<(), Fail> {
+    let rows = [
+        ([].as_slice(), "finished 1|{}\n|1"),
+        (
+            HAS_TERMS.as_slice(),
+            "finished 1|{p(f(1)), q(\"a b\",-2)}\n|1",
+        ),
+        (CHOSEN_AND_WANTED.as_slice(), "finished 1|{-r(g)}\n|1"),
+        (ONE_IS_OUT.as_slice(), "finished 1|{a}\n|1"),
+        (BROKEN.as_slice(), "finished 0||0"),
+        (DENIES_ITSELF.as_slice(), "finished 0||0"),
+        (SUPPORTS_ITSELF.as_slice(), "finished 0||0"),
+        (WANTS_SUPPORT.as_slice(), "finished 0||0"),
+    ];
+    for (lines, want) in rows {
         let case = Case {
             lines,
             limit: 5,
@@ -158,7 +296,7 @@ fn what_denies_or_supports_only_itself_is_in_no_set(rt: HostRuntime) -> Result<(
             cut: 0,
             untraced: &[],
         };
-        assert_eq!(rt; searched(rt.alloc(), &case)?.as_str(), "finished 0||0");
+        assert_eq!(rt; searched(rt.alloc(), &case)?.as_str(), want);
     }
     Ok(())
 }

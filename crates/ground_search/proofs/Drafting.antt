@@ -15,9 +15,9 @@ use Rattle.search_theory.specs.Tables.{other_sign, same_lit, both_signs, without
 use Rattle.search_theory.proofs.Basics.{in_single, get_in, and_left, and_right, and_intro, bool_cases, nat_eq-same, nat_eq-true, or_left, or_right, lit_is, any_to, any_from}
 use Rattle.search_theory.proofs.Tables.{Clash, nogood, set_of-or_clash, once-from, once-to, in_lits_of}
 use Rattle.nogood_store.specs.Stored.{HasNoAtomTwice, IsHeadOf, atom_of}
-use Rattle.ground_search.specs.Searching.{LitsAreBelow}
+use Rattle.ground_search.specs.Searching.{LitsAreBelow, AreBelow}
 use Rattle.ground_search.specs.declared.draft.Draft.{Draft}
-use Rattle.ground_search.specs.Drafts.{IsDraft, AreBelow, StartsWith, place_of, head_lits, AddsOnce}
+use Rattle.ground_search.specs.Drafts.{IsDraft, StartsWith, place_of, head_lits, AddsOnce}
 
 -- ---- both signs of an atom
 

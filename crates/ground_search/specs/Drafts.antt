@@ -29,9 +29,6 @@ pub record IsDraft (n : ℕ) (d : Draft) : Type 0 where
 
 -- ---- how they are made
 
-abbrev pub AreBelow : ℕ → List ℕ → Type 0
-AreBelow n atoms = (a : ℕ) → a ∈ atoms → a < n
-
 -- where there is a head, the head literal is the first
 abbrev pub StartsWith : Option ℕ → List Lit → Type 0
 StartsWith None lits = Unit {0}

@@ -1,4 +1,5 @@
 pub mod Searching
 pub mod Visits
 pub mod Moves
+pub mod Resolving
 pub mod Drafts

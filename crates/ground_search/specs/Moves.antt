@@ -1,13 +1,21 @@
 -- What a search finds when it looks at its state.
-use Rattle.std.specs.Prelude.{◌≡◌, ℕ, ◌<◌, ◌⊎◌, true, false, List, [], ◌∷◌, length, Some, None, slice_get}
-use Rattle.std.specs.List.{list_any}
-use Rattle.lists.specs.Lists.{◌∈◌, Each}
-use Rattle.alpha_outside.specs.declared.literal.Value.TheVariants.{True, MustBe}
+use Rattle.std.specs.Prelude.{◌≡◌, ℕ, ◌<◌, ◌≤◌, true, List, [], ◌∷◌, map, Option, Some, None, slice_get}
+use Rattle.lists.specs.Lists.{◌∈◌, Each, HasNoRepeats}
+use Rattle.alpha_outside.specs.declared.literal.Value.TheVariants.{True}
 use Rattle.search_theory.specs.declared.entry.Entry.{Entry}
 use Rattle.search_theory.specs.Values.{value_of, lit, Holds}
 use Rattle.search_theory.specs.Nogoods.{Nogood, IsStruck, Gives, NoneStruck, NoneUnit}
-use Rattle.search_theory.specs.Instances.{Instance}
-use Rattle.ground_search.specs.Searching.{Searching, ids, is_made_by}
+use Rattle.search_theory.specs.Tables.{Made}
+use Rattle.search_theory.specs.States.{IsName, IsMade, IsActive, Names}
+use Rattle.asp_meaning.specs.declared.value.Value as meaning
+use Rattle.asp_meaning.specs.Atoms.{Atom}
+use Rattle.asp_meaning.specs.Lines.{IsInOrder}
+use Rattle.core_rules.specs.declared.rules.CoreRule.{CoreRule}
+use Rattle.core_meaning.specs.Atoms.{GroundAtom, User}
+use Rattle.term_pool.specs.Nodes.{most_symbols, value_size}
+use Rattle.search_rules.specs.Tests.{Maker}
+use Rattle.search_rules.specs.Rules.{search_rules}
+use Rattle.ground_search.specs.Searching.{Searching, ids, state_of}
 use Rattle.ground_search.specs.declared.finding.Finding.{Finding}
 use Rattle.ground_search.specs.declared.finding.Finding.TheVariants as finding
 
@@ -21,31 +29,45 @@ FoundIs v (finding.Struck n) = (ng : Nogood) × (slice_get v.nogoods n ≡ Some 
 abbrev pub AreUp : List Entry → List ℕ → Type 0
 AreUp stack atoms = (a : ℕ) → a ∈ atoms → Holds stack (lit a true)
 
--- the body atom of an instance is unassigned or must-be-true, all positive atoms are true, and no negative one is true or must-be-true
-pub record IsOpenBody (stack : List Entry) (i : Instance ℕ) (b : ℕ) : Type 0 where
-  pub not_yet : (value_of stack b ≡ None) ⊎ (value_of stack b ≡ Some MustBe)
-  pub pos_true : Each (λ p. value_of stack p ≡ Some True) i.pos
-  pub neg_not_up : Each (λ n. ¬ Holds stack (lit n true)) i.neg
+-- the instance of the rule of this number was made
+abbrev pub IsRuleMade : Searching → ℕ → Type 0
+IsRuleMade v m = IsMade (search_rules v.core) (state_of v) (m, [])
 
 -- the rule's instance isn't made, and its positive atoms are true or must-be-true
 pub record IsDue (v : Searching) (m : ℕ) : Type 0 where
-  pub inst : Instance ℕ
-  pub rule : slice_get v.program.rules m ≡ Some inst
-  pub not_made : list_any (is_made_by m) v.made ≡ false
-  pub up : AreUp v.stack inst.pos
+  pub rule : CoreRule
+  pub there : slice_get v.core.rules m ≡ Some rule
+  pub atoms : List ℕ
+  pub known : slice_get v.positives m ≡ Some (Some atoms)
+  pub not_made : ¬ IsRuleMade v m
+  pub up : AreUp v.stack atoms
 
--- each rule whose positive atoms are true or must-be-true has its instance made
+-- each rule whose positive atoms are known and true or must-be-true has its instance made
 abbrev pub NothingIsDue : Searching → Type 0
-NothingIsDue v = (m : ℕ) (i : Instance ℕ) → slice_get v.program.rules m ≡ Some i → AreUp v.stack i.pos → list_any (is_made_by m) v.made ≡ true
+NothingIsDue v = (m : ℕ) (atoms : List ℕ) → slice_get v.positives m ≡ Some (Some atoms) → AreUp v.stack atoms → IsRuleMade v m
 
--- each number of the list is below the next
-abbrev pub AreRising : List ℕ → Type 0
-AreRising [] = Unit {0}
-AreRising (x ∷ []) = Unit {0}
-AreRising (x ∷ y ∷ more) = (x < y) × AreRising (y ∷ more)
+-- no instance that is noted as a choice has an active body
+abbrev pub NoChoice : Searching → Type 0
+NoChoice v = (i : ℕ) → i ∈ v.choices → (k : Made Maker) → slice_get v.made i ≡ Some k → (b : ℕ) → ¬ IsActive (state_of v) k b
 
--- these are the named atoms that are true, in the order of their ids
+-- the terms of each named atom are within the limit
+abbrev pub NamesAreSmall : Searching → Type 0
+NamesAreSmall v = (x : ℕ) (a : Atom) → IsName (state_of v) x (User a) → Each (λ w. value_size w ≤ most_symbols) a.args
+
+-- the id is that of a named atom
+abbrev pub IsNamed : Searching → ℕ → Type 0
+IsNamed v x = (a : GroundAtom) × IsName (state_of v) x a
+
+-- these are the ids below n of the named atoms that are true, each once
+pub record AreTrueNames (v : Searching) (n : ℕ) (atoms : List ℕ) : Type 0 where
+  pub all_there : (x : ℕ) → x < n → IsNamed v x → value_of v.stack x ≡ Some True → x ∈ atoms
+  pub each_true : (x : ℕ) → x ∈ atoms → (x < n) × IsNamed v x × (value_of v.stack x ≡ Some True)
+  pub once : HasNoRepeats atoms
+
+-- these are the named atoms that are true, in the order of a set line
 pub record AreTrueIds (v : Searching) (atoms : List ℕ) : Type 0 where
-  pub all_there : (x : ℕ) → x < length v.program.names → value_of v.stack x ≡ Some True → x ∈ atoms
-  pub each_true : (x : ℕ) → x ∈ atoms → (x < length v.program.names) × (value_of v.stack x ≡ Some True)
-  pub rising : AreRising atoms
+  pub all_there : (x : ℕ) → IsNamed v x → value_of v.stack x ≡ Some True → x ∈ atoms
+  pub each_true : (x : ℕ) → x ∈ atoms → (a : Atom) × IsName (state_of v) x (User a) × (value_of v.stack x ≡ Some True)
+  pub set : List Atom
+  pub names : Names v.names atoms (map User set)
+  pub ordered : IsInOrder set

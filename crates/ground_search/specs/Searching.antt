@@ -1,66 +1,79 @@
 -- What contracts see of a search, as a state of the search's theory.
-use Rattle.std.specs.Prelude.{◌≡◌, ℕ, ◌+◌, ◌^◌, ◌<◌, ◌≤◌, Bool, true, false, nat_eq, List, [], ◌∷◌, ◌++◌, map, length, Option, Some, None, slice_get, slice_index_or}
-use Rattle.std.specs.List.{list_any}
-use Rattle.lists.specs.Lists.{◌∈◌}
+use Rattle.std.specs.Prelude.{◌≡◌, ℕ, ◌+◌, ◌^◌, ◌<◌, ◌≤◌, Bool, true, false, nat_eq, List, [], ◌∷◌, ◌++◌, map, take, length, Option, Some, None, slice_get}
+use Rattle.lists.specs.Lists.{◌∈◌, Each}
+use Rattle.alpha_outside.specs.declared.node.Node.{Node}
+use Rattle.alpha_outside.specs.declared.pred.Pred.{Pred}
+use Rattle.alpha_outside.specs.declared.pred.Pred.TheVariants as pred
+use Rattle.alpha_outside.specs.declared.kinds.RuleKind.{RuleKind}
+use Rattle.alpha_outside.specs.declared.kinds.RuleKind.TheVariants as rule
 use Rattle.alpha_outside.specs.declared.literal.Lit.{Lit}
-use Rattle.asp_meaning.specs.Atoms.{Atom}
-use Rattle.plain_rules.specs.Rules.{proposition}
-use Rattle.plain_program.specs.Programs.{Ground}
 use Rattle.alpha_outside.specs.declared.literal.Value.{Value}
+use Rattle.alpha_outside.specs.declared.maker.Maker as outside
+use Rattle.alpha_outside.specs.declared.maker.Maker.TheVariants as say
+use Rattle.core_rules.specs.declared.rules.Core.{Core}
+use Rattle.core_meaning.specs.Atoms.{GroundAtom, User}
 use Rattle.search_theory.specs.declared.entry.Why.{Why}
 use Rattle.search_theory.specs.declared.entry.Why.TheVariants.{Given, Chosen, Closed}
 use Rattle.search_theory.specs.declared.entry.Entry.{Entry}
 use Rattle.search_theory.specs.Values.{entry_on, value_of, level_of}
 use Rattle.search_theory.specs.Nogoods.{Nogood}
-use Rattle.search_theory.specs.Instances.{Constraint, Instance, Rules}
-use Rattle.search_theory.specs.Tables.{Made, nogoods_of}
+use Rattle.search_theory.specs.Instances.{Kind, Plain, Choice, Constraint, Instance}
+use Rattle.search_theory.specs.Tables as table
+use Rattle.search_theory.specs.Tables.{nogoods_of}
 use Rattle.search_theory.specs.States as theory
-use Rattle.search_theory.specs.States.{AtomNode, Named, BodyOf, State}
+use Rattle.search_theory.specs.States.{AtomNode, Named, BodyOf}
 use Rattle.search_theory.specs.Events.{Event}
 use Rattle.nogood_store.specs.Stored.{Stored, nogood_of}
-use Rattle.ground_search.specs.declared.search.Row.{Row}
+use Rattle.term_pool.specs.Nodes.{value_at}
+use Rattle.atom_pool.specs.declared.atom.AtomNode as arena
+use Rattle.atom_pool.specs.declared.atom.AtomNode.TheVariants as node
+use Rattle.atom_pool.specs.declared.instances.Made.{Made}
+use Rattle.atom_pool.specs.Pools.{Pool}
+use Rattle.atom_pool.specs.Meanings.{atom_from, IsBeside}
+use Rattle.choice_manager.specs.Active.{AreThere, with_noted}
+use Rattle.search_rules.specs.Tests.{Maker}
+use Rattle.search_rules.specs.Rules.{Reached}
+use Rattle.search_rules.specs.Stage.{IsGroundCore}
 use Rattle.ground_search.specs.declared.search.Stage.{Stage}
 use Rattle.ground_search.specs.declared.search.Stage.TheVariants as stage
 
--- the rules, states and events of a search over propositions: atoms are those of the program, and a maker is the place of its statement
-abbrev pub Core : Type 0
-Core = Rules (Unit {0}) Atom ℕ
-
-abbrev pub Reached : Type 0
-Reached = State (Unit {0}) Atom ℕ
-
+-- an event of such a search
 abbrev pub Step : Type 0
-Step = Event Atom ℕ
+Step = Event GroundAtom Maker
 
 -- what a search keeps
 pub record Searching : Type 0 where
-  pub program : Ground
-  -- the number of the instance of each body atom; their ids follow those of the program's atoms
-  pub bodies : List ℕ
-  pub made : List (Made ℕ)
+  pub core : Core
+  -- all terms, the first of which were noted
+  pub nodes : List Node
+  pub noted : ℕ
+  -- what each id stands for
+  pub names : List (AtomNode GroundAtom)
+  pub made : List (table.Made Maker)
+  -- for the rules that were looked at, the ids of the positive atoms; none where one of these has too large a term
+  pub positives : List (Option (List ℕ))
+  -- the instances that are noted as choices
+  pub choices : List ℕ
   pub nogoods : List Nogood
   -- the assigned atoms, the newest entry first
   pub stack : List Entry
   pub closing : Bool
   pub phase : theory.Phase
 
--- what each id stands for: the program's atoms, and then the body atoms
-abbrev pub names_of : List (List ℕ) → List ℕ → List (AtomNode Atom)
-names_of names bodies = map (λ n. Named (proposition n)) names ++ map BodyOf bodies
-
 -- how many ids there are
-abbrev pub ids_of : Ground → List ℕ → ℕ
-ids_of program bodies = length program.names + length bodies
-
 abbrev pub ids : Searching → ℕ
-ids v = ids_of v.program v.bodies
+ids v = length v.names
+
+-- the terms that were noted
+abbrev pub terms_of : Searching → List Node
+terms_of v = take v.noted v.nodes
 
 -- the state of the theory, but for the sets found, of which a search keeps none
 abbrev pub state_of : Searching → Reached
 state_of v = record {
   numbers = tt;
-  terms = [];
-  names = names_of v.program.names v.bodies;
+  terms = terms_of v;
+  names = v.names;
   made = v.made;
   nogoods = v.nogoods;
   stack = v.stack;
@@ -70,21 +83,37 @@ state_of v = record {
   phase = v.phase;
 }
 
--- a search of which only the atoms are named
-abbrev pub fresh : Ground → Searching
-fresh program = record { program = program; bodies = []; made = []; nogoods = []; stack = []; closing = false; phase = theory.Phase.Free }
+-- a search that has done nothing
+abbrev pub fresh : Core → Searching
+fresh core = record { core = core; nodes = []; noted = 0; names = []; made = []; positives = []; choices = []; nogoods = []; stack = []; closing = false; phase = theory.Phase.Free }
 
 -- ---- the fields of a search
 
-abbrev pub no_rule : Instance ℕ
-no_rule = record { kind = Constraint; pos = []; neg = [] }
+-- what an atom of the arena is, where all named ones are of the program
+abbrev pub name_of : List Node → List Pred → arena.AtomNode → AtomNode GroundAtom
+name_of nodes preds (node.Named p args) = Named (User (atom_from nodes preds (node.Named p args)))
+name_of nodes preds (node.Body inst) = BodyOf inst
 
--- the instance with this number
-abbrev pub rule_at : List (Instance ℕ) → ℕ → Instance ℕ
-rule_at rules m = slice_index_or rules m no_rule
+abbrev pub names_of : List Node → Pool → List (AtomNode GroundAtom)
+names_of nodes pool = map (name_of nodes pool.preds) pool.atoms
 
-abbrev pub made_of : List (Instance ℕ) → Row → Made ℕ
-made_of rules r = record { maker = r.rule; inst = rule_at rules r.rule; body = r.body }
+-- the maker, where it is a rule; no step makes anything yet
+abbrev pub maker_of : List Node → outside.Maker → Maker
+maker_of nodes (say.Rule r binding) = (r, map (value_at nodes) binding)
+maker_of nodes (say.Step step) = (0, [])
+
+-- what an instance of this kind does; without a head it is a constraint
+abbrev pub kind_of : RuleKind → Option ℕ → Kind ℕ
+kind_of rule.Plain (Some h) = Plain h
+kind_of rule.Choice (Some h) = Choice h
+kind_of rule.Constraint (Some h) = Constraint
+kind_of kind None = Constraint
+
+abbrev pub instance_of : Made → Instance ℕ
+instance_of k = record { kind = kind_of k.kind k.head; pos = k.pos; neg = k.neg }
+
+abbrev pub made_of : List Node → Made → table.Made Maker
+made_of nodes k = record { maker = maker_of nodes k.maker; inst = instance_of k; body = k.body }
 
 abbrev pub phase_of : Stage → theory.Phase
 phase_of stage.Free = theory.Phase.Free
@@ -94,34 +123,69 @@ phase_of (stage.MustStrike n) = theory.Phase.MustStrike n
 phase_of (stage.MustJump n) = theory.Phase.MustJump n
 phase_of stage.Over = theory.Phase.Over
 
-abbrev pub searching : Ground → List ℕ → List Row → List Stored → List Entry → Bool → Stage → Searching
-searching program bodies rows store stack closing stage = record {
-  program = program;
-  bodies = bodies;
-  made = map (made_of program.rules) rows;
+abbrev pub searching : Core → List Node → ℕ → Pool → List Made → List (Option (List ℕ)) → List ℕ → List Stored → List Entry → Bool → Stage → Searching
+searching core nodes noted pool made positives choices store stack closing stage = record {
+  core = core;
+  nodes = nodes;
+  noted = noted;
+  names = names_of nodes pool;
+  made = map (made_of nodes) made;
+  positives = positives;
+  choices = choices;
   nogoods = map nogood_of store;
   stack = stack;
   closing = closing;
   phase = phase_of stage;
 }
 
--- whether the maker's instance is this one
-abbrev pub is_made_by : ℕ → Made ℕ → Bool
-is_made_by m k = nat_eq k.maker m
-
 abbrev pub LitsAreBelow : ℕ → List Lit → Type 0
 LitsAreBelow n lits = (l : Lit) → l ∈ lits → l.atom < n
 
--- how the fields of a search keep to one another: each id has its place on the trail, and each rule is flagged where its instance was made
-pub record Ties (program : Ground) (bodies : List ℕ) (rows : List Row) (flags : List Bool) (store : List Stored) (places : ℕ) : Type 0 where
-  pub placed : ids_of program bodies ≤ places
-  pub few : ids_of program bodies < 2 ^ 32
-  pub lits_placed : (s : Stored) → s ∈ store → LitsAreBelow (ids_of program bodies) s.lits
-  pub rows_there : (r : Row) → r ∈ rows → r.rule < length program.rules
-  pub bodies_placed : (r : Row) → r ∈ rows → (b : ℕ) → r.body ≡ Some b → b < ids_of program bodies
-  pub few_rows : length rows < 2 ^ 32
-  pub flagged : length flags ≡ length program.rules
-  pub flags_are : (m : ℕ) → m < length flags → slice_get flags m ≡ Some (list_any (is_made_by m) (map (made_of program.rules) rows))
+abbrev pub AreBelow : ℕ → List ℕ → Type 0
+AreBelow n atoms = (a : ℕ) → a ∈ atoms → a < n
+
+-- the ids of an instance are below n
+pub record IsWithin (n : ℕ) (k : Made) : Type 0 where
+  pub head : (h : ℕ) → k.head ≡ Some h → h < n
+  pub pos : AreBelow n k.pos
+  pub neg : AreBelow n k.neg
+  pub body : (b : ℕ) → k.body ≡ Some b → b < n
+
+-- the predicate is one that the program has
+abbrev pub IsUserPred : Pred → Type 0
+IsUserPred p = (negated : Bool) × (name : List ℕ) × (arity : ℕ) × (p ≡ pred.User negated name arity)
+
+-- the fields of a search that keep to one another; `places` is how many atoms have a place on the trail
+pub record Fields : Type 0 where
+  pub core : Core
+  pub nodes : List Node
+  pub noted : ℕ
+  pub pool : Pool
+  pub made : List Made
+  pub positives : List (Option (List ℕ))
+  pub choices : List ℕ
+  pub store : List Stored
+  pub places : ℕ
+
+-- how many ids there are
+abbrev pub id_count : Fields → ℕ
+id_count f = length (names_of f.nodes f.pool)
+
+-- how they keep to one another
+pub record Ties (f : Fields) : Type 0 where
+  pub ground : IsGroundCore f.core
+  pub few_rules : length f.core.rules < 2 ^ 32
+  pub few_noted : f.noted ≤ length f.nodes
+  pub users : (p : Pred) → p ∈ f.pool.preds → IsUserPred p
+  pub beside : IsBeside f.pool (length f.nodes)
+  pub placed : id_count f ≤ f.places
+  pub few : id_count f < 2 ^ 32
+  pub lits_placed : (s : Stored) → s ∈ f.store → LitsAreBelow (id_count f) s.lits
+  pub makers : (k : Made) → k ∈ f.made → (r : ℕ) × (k.maker ≡ say.Rule r [])
+  pub made_placed : (k : Made) → k ∈ f.made → IsWithin (id_count f) k
+  pub choices_there : AreThere f.made f.choices
+  pub positives_few : length f.positives ≤ length f.core.rules
+  pub positives_placed : (m : ℕ) (atoms : List ℕ) → slice_get f.positives m ≡ Some (Some atoms) → AreBelow (id_count f) atoms
 
 -- ---- the steps
 
@@ -130,8 +194,12 @@ abbrev pub assigned : Searching → ℕ → Value → Why → Searching
 assigned v a value why = record v { stack = entry_on v.stack a value why ∷ v.stack }
 
 -- the instance was made, and its nogoods stored
-abbrev pub with_instance : Searching → Made ℕ → Searching
-with_instance v k = record v { made = v.made ++ k ∷ []; nogoods = v.nogoods ++ nogoods_of k }
+abbrev pub with_instance : Searching → table.Made Maker → Searching
+with_instance v k = record v { made = v.made ++ k ∷ []; choices = with_noted v.choices (length v.made) k.body; nogoods = v.nogoods ++ nogoods_of k }
+
+-- one more id
+abbrev pub with_name : Searching → AtomNode GroundAtom → Searching
+with_name v n = record v { names = v.names ++ n ∷ [] }
 
 abbrev pub is_empty : List Lit → Bool
 is_empty [] = true

@@ -5,13 +5,12 @@ ghost use Rattle.lists.specs.Lists.{Each};
 ghost use Rattle.search_theory.specs.Values.{lit};
 ghost use Rattle.search_theory.specs.Tables.{table_of, both_signs, once, set_of, lits_of, each_with, with_body};
 ghost use Rattle.nogood_store.specs.Stored.{HasNoAtomTwice, atom_of};
-ghost use Rattle.plain_program.specs.Programs.{kind_of, instance_of, IsWithin};
-ghost use Rattle.ground_search.specs.Searching.{LitsAreBelow};
-ghost use Rattle.ground_search.specs.Drafts.{IsDraft, nogood_of, place_of, StartsWith, AreBelow, AddsOnce, head_lits};
+ghost use Rattle.ground_search.specs.Searching.{LitsAreBelow, AreBelow, IsWithin, kind_of, instance_of};
+ghost use Rattle.ground_search.specs.Drafts.{IsDraft, nogood_of, place_of, StartsWith, AddsOnce, head_lits};
 
-use alpha_outside::{AtomId, Lit, OutOfMemory};
+use alpha_outside::{AtomId, Lit, OutOfMemory, RuleKind};
+use atom_pool::Made;
 use indexmap::IndexSet;
-use plain_program::{Kind, Rule};
 use std::alloc::Global;
 
 /// The literals of a nogood, and the place of its head literal.
@@ -21,50 +20,49 @@ pub struct Draft {
     pub head: Option<u32>,
 }
 
-/// The nogoods of the instance with this body atom, in time linear in the length of its body.
-pub fn nogoods_of(
-    alloc: Global,
-    rule: &Rule,
-    body: Option<AtomId>,
-) -> Result<Vec<Draft>, OutOfMemory>
-    ensures table { IfOk result (λ v. map nogood_of v.items ≡ table_of (kind_of rule.now.kind) body (instance_of rule.now)) }
-    ensures drafts { IfOk result (λ v. (n : ℕ) → IsWithin n (instance_of rule.now) → ((b : ℕ) → body ≡ Some b → b < n) → Each (IsDraft n) v.items) }
+/// The nogoods of an instance, in time linear in the length of its body.
+pub fn nogoods_of(alloc: Global, made: &Made) -> Result<Vec<Draft>, OutOfMemory>
+    ensures table { IfOk result (λ v. map nogood_of v.items ≡ table_of (kind_of made.now.kind made.now.head) made.now.body (instance_of made.now)) }
+    ensures drafts { IfOk result (λ v. (n : ℕ) → IsWithin n made.now → Each (IsDraft n) v.items) }
 {
-    match rule.kind {
-        Kind::Plain(head) => match body {
-            None => of_plain(alloc, rule, head),
-            Some(body) => of_body(alloc, rule, body, head, false),
+    let Some(head) = made.head else {
+        return of_constraint(alloc, made);
+    };
+    match made.kind {
+        RuleKind::Plain => match made.body {
+            None => of_plain(alloc, made, head),
+            Some(body) => of_body(alloc, made, body, head, false),
         },
-        Kind::Choice(head) => match body {
+        RuleKind::Choice => match made.body {
             None => Ok(Vec::new(alloc)),
-            Some(body) => of_body(alloc, rule, body, head, true),
+            Some(body) => of_body(alloc, made, body, head, true),
         },
-        Kind::Constraint => of_constraint(alloc, rule),
+        RuleKind::Constraint => of_constraint(alloc, made),
     }
 }
 
 // The nogoods of a plain instance that has no body atom.
-fn of_plain(alloc: Global, rule: &Rule, head: AtomId) -> Result<Vec<Draft>, OutOfMemory>
-    ensures table { IfOk result (λ v. map nogood_of v.items ≡ set_of (Some head) (lit head false ∷ lits_of true rule.now.pos)) }
-    ensures drafts { IfOk result (λ v. (n : ℕ) → head < n → AreBelow n rule.now.pos → Each (IsDraft n) v.items) }
+fn of_plain(alloc: Global, made: &Made, head: AtomId) -> Result<Vec<Draft>, OutOfMemory>
+    ensures table { IfOk result (λ v. map nogood_of v.items ≡ set_of (Some head) (lit head false ∷ lits_of true made.now.pos)) }
+    ensures drafts { IfOk result (λ v. (n : ℕ) → head < n → AreBelow n made.now.pos → Each (IsDraft n) v.items) }
 {
     let mut drafts = Vec::new(alloc);
     let mut lits = Vec::new(alloc);
     push_lit(&mut lits, head, false)?;
-    push_lits(&mut lits, true, rule.pos.as_slice())?;
+    push_lits(&mut lits, true, made.pos.as_slice())?;
     push_set(alloc, &mut drafts, Some(head), lits.as_slice())?;
     Ok(drafts)
 }
 
 // The nogoods of a constraint.
-fn of_constraint(alloc: Global, rule: &Rule) -> Result<Vec<Draft>, OutOfMemory>
-    ensures table { IfOk result (λ v. map nogood_of v.items ≡ set_of None (lits_of true rule.now.pos ++ lits_of false rule.now.neg)) }
-    ensures drafts { IfOk result (λ v. (n : ℕ) → AreBelow n rule.now.pos → AreBelow n rule.now.neg → Each (IsDraft n) v.items) }
+fn of_constraint(alloc: Global, made: &Made) -> Result<Vec<Draft>, OutOfMemory>
+    ensures table { IfOk result (λ v. map nogood_of v.items ≡ set_of None (lits_of true made.now.pos ++ lits_of false made.now.neg)) }
+    ensures drafts { IfOk result (λ v. (n : ℕ) → AreBelow n made.now.pos → AreBelow n made.now.neg → Each (IsDraft n) v.items) }
 {
     let mut drafts = Vec::new(alloc);
     let mut lits = Vec::new(alloc);
-    push_lits(&mut lits, true, rule.pos.as_slice())?;
-    push_lits(&mut lits, false, rule.neg.as_slice())?;
+    push_lits(&mut lits, true, made.pos.as_slice())?;
+    push_lits(&mut lits, false, made.neg.as_slice())?;
     push_set(alloc, &mut drafts, None, lits.as_slice())?;
     Ok(drafts)
 }
@@ -72,19 +70,19 @@ fn of_constraint(alloc: Global, rule: &Rule) -> Result<Vec<Draft>, OutOfMemory>
 // The nogoods of an instance with a body atom, in which the head may have to be chosen.
 fn of_body(
     alloc: Global,
-    rule: &Rule,
+    made: &Made,
     body: AtomId,
     head: AtomId,
     chosen: bool,
 ) -> Result<Vec<Draft>, OutOfMemory>
-    ensures table { IfOk result (λ v. map nogood_of v.items ≡ with_body body (head_lits chosen head) (instance_of rule.now) head) }
-    ensures drafts { IfOk result (λ v. (n : ℕ) → body < n → head < n → AreBelow n rule.now.pos → AreBelow n rule.now.neg → Each (IsDraft n) v.items) }
+    ensures table { IfOk result (λ v. map nogood_of v.items ≡ with_body body (head_lits chosen head) (instance_of made.now) head) }
+    ensures drafts { IfOk result (λ v. (n : ℕ) → body < n → head < n → AreBelow n made.now.pos → AreBelow n made.now.neg → Each (IsDraft n) v.items) }
 {
     let mut drafts = Vec::new(alloc);
-    let lits = body_lits(alloc, rule, body, head, chosen)?;
+    let lits = body_lits(alloc, made, body, head, chosen)?;
     push_set(alloc, &mut drafts, Some(body), lits.as_slice())?;
-    push_each(alloc, &mut drafts, body, false, rule.pos.as_slice())?;
-    push_each(alloc, &mut drafts, body, true, rule.neg.as_slice())?;
+    push_each(alloc, &mut drafts, body, false, made.pos.as_slice())?;
+    push_each(alloc, &mut drafts, body, true, made.neg.as_slice())?;
     let lits = two_lits(alloc, head, false, body, true)?;
     push_set(alloc, &mut drafts, Some(head), lits.as_slice())?;
     Ok(drafts)
@@ -93,18 +91,18 @@ fn of_body(
 // The literals of the nogood by which the body atom becomes true.
 fn body_lits(
     alloc: Global,
-    rule: &Rule,
+    made: &Made,
     body: AtomId,
     head: AtomId,
     chosen: bool,
 ) -> Result<Vec<Lit>, OutOfMemory>
-    ensures { IfOk result (λ v. v.items ≡ lit body false ∷ head_lits chosen head ++ lits_of true rule.now.pos ++ lits_of false rule.now.neg) }
+    ensures { IfOk result (λ v. v.items ≡ lit body false ∷ head_lits chosen head ++ lits_of true made.now.pos ++ lits_of false made.now.neg) }
 {
     let mut lits = Vec::new(alloc);
     push_lit(&mut lits, body, false)?;
     push_chosen(&mut lits, head, chosen)?;
-    push_lits(&mut lits, true, rule.pos.as_slice())?;
-    push_lits(&mut lits, false, rule.neg.as_slice())?;
+    push_lits(&mut lits, true, made.pos.as_slice())?;
+    push_lits(&mut lits, false, made.neg.as_slice())?;
     Ok(lits)
 }
 
@@ -251,26 +249,56 @@ fn add_once(
 #[cfg(test)]
 mod tests {
     use super::nogoods_of;
-    use alpha_outside::{AtomId, List};
-    use plain_program::{Kind, Rule};
+    use alpha_outside::{AtomId, List, Maker, RuleKind};
+    use atom_pool::Made;
+    use std::alloc::{AllocError, Global};
     use std::test::Fail;
+
+    // An instance with this head, these atoms and this body atom.
+    fn made(
+        alloc: Global,
+        head: Option<AtomId>,
+        pos: &[AtomId],
+        neg: &[AtomId],
+        body: Option<AtomId>,
+    ) -> Result<Made, AllocError> {
+        let kind = match head {
+            Some(_) => RuleKind::Plain,
+            None => RuleKind::Constraint,
+        };
+        let binding = List::new(alloc);
+        let pos = List::from_slice(alloc, pos)?;
+        let neg = List::from_slice(alloc, neg)?;
+        Ok(Made {
+            maker: Maker::Rule { rule: 0, binding },
+            kind,
+            head,
+            pos,
+            neg,
+            body,
+        })
+    }
 
     #[test]
     fn a_body_gives_four(rt: HostRuntime) -> Result<(), Fail> {
-        let pos = List::from_slice(rt.alloc(), &[AtomId(1)])?;
-        let neg = List::from_slice(rt.alloc(), &[AtomId(2)])?;
-        let kind = Kind::Plain(AtomId(0));
-        let drafts = nogoods_of(rt.alloc(), &Rule { kind, pos, neg }, Some(AtomId(3)))?;
+        let head = Some(AtomId(0));
+        let rule = made(
+            rt.alloc(),
+            head,
+            &[AtomId(1)],
+            &[AtomId(2)],
+            Some(AtomId(3)),
+        )?;
+        let drafts = nogoods_of(rt.alloc(), &rule)?;
         assert_eq!(rt; drafts.len(), 4);
         Ok(())
     }
 
     #[test]
     fn a_repeated_atom_stands_once(rt: HostRuntime) -> Result<(), Fail> {
-        let pos = List::from_slice(rt.alloc(), &[AtomId(1), AtomId(2), AtomId(1)])?;
-        let neg = List::new(rt.alloc());
-        let kind = Kind::Plain(AtomId(0));
-        let drafts = nogoods_of(rt.alloc(), &Rule { kind, pos, neg }, None)?;
+        let head = Some(AtomId(0));
+        let pos = [AtomId(1), AtomId(2), AtomId(1)];
+        let drafts = nogoods_of(rt.alloc(), &made(rt.alloc(), head, &pos, &[], None)?)?;
         assert_eq!(rt; drafts.len(), 1);
         assert_eq!(rt; drafts[0].lits.len(), 3);
         Ok(())
@@ -278,10 +306,8 @@ mod tests {
 
     #[test]
     fn both_signs_give_none(rt: HostRuntime) -> Result<(), Fail> {
-        let pos = List::from_slice(rt.alloc(), &[AtomId(1)])?;
-        let neg = List::from_slice(rt.alloc(), &[AtomId(1)])?;
-        let kind = Kind::Constraint;
-        let drafts = nogoods_of(rt.alloc(), &Rule { kind, pos, neg }, None)?;
+        let rule = made(rt.alloc(), None, &[AtomId(1)], &[AtomId(1)], None)?;
+        let drafts = nogoods_of(rt.alloc(), &rule)?;
         assert!(rt; drafts.is_empty());
         Ok(())
     }

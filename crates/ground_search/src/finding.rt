@@ -1,25 +1,27 @@
 //! What a search looks for: a nogood that is unit or struck, an instance that is due, a body that is active, and named atoms
-//! that are must-be-true, unassigned or true. Each look goes through everything there is to look at.
+//! that are must-be-true, unassigned or true.
 
-ghost use Rattle.std.specs.Prelude.{◌≡◌, ◌<◌, ◌⊎◌, ◌++◌, ◌∷◌, ℕ, List, Option, None, Some, true, false, length, IfSome, IfNone, IfOk};
+ghost use Rattle.std.specs.Prelude.{◌≡◌, ◌<◌, ◌++◌, ◌∷◌, ℕ, List, Option, None, Some, true, false, map, slice_get, IfSome, IfNone, IfOk};
 ghost use Rattle.lists.specs.Lists.{◌∈◌, Each};
 ghost use Rattle.alpha_outside.specs.declared.literal.Value.{Value};
 ghost use Rattle.alpha_outside.specs.declared.literal.Value.TheVariants.{True, MustBe};
+ghost use Rattle.asp_meaning.specs.Atoms.{Atom as Fact};
+ghost use Rattle.asp_meaning.specs.Lines.{IsSetLine};
+ghost use Rattle.core_meaning.specs.Atoms.{User as OfProgram};
 ghost use Rattle.search_theory.specs.declared.entry.Why.TheVariants.{Closed};
-ghost use Rattle.search_theory.specs.Values.{Holds, lit, value_of, chosen as chosen_of, HasClosed, is_up as up_of};
-ghost use Rattle.search_theory.specs.States.{IsActive, NoneActive};
+ghost use Rattle.search_theory.specs.Values.{lit, value_of, chosen as chosen_of, HasClosed, is_up as up_of};
+ghost use Rattle.search_theory.specs.States.{IsActive, Names};
 ghost use Rattle.search_theory.specs.Tables.{Made};
-ghost use Rattle.plain_program.specs.Programs.{instance_of};
 ghost use Rattle.trail.specs.Assigning.{IsStackOf};
+ghost use Rattle.search_rules.specs.Tests.{Maker as Rule};
 ghost use Rattle.ground_search.specs.Searching.{ids, state_of, jump_of, adds_choice};
-ghost use Rattle.ground_search.specs.Moves.{FoundIs, AreUp, IsDue, NothingIsDue, AreTrueIds, IsOpenBody};
+ghost use Rattle.ground_search.specs.Moves.{FoundIs, AreUp, IsDue, IsRuleMade, NothingIsDue, NamesAreSmall, NoChoice, IsNamed, AreTrueNames, AreTrueIds};
 
-use crate::search::{Row, Search};
+use crate::search::Search;
 use crate::visit::{Visit, look_at};
-use alpha_outside::{AtomId, Lit, NogoodId, OutOfMemory, Value};
-use plain_program::Rule;
+use alpha_outside::{AtomId, List, Lit, Maker, NogoodId, OutOfMemory, Value};
+use answer_printer::{set_line, sorted_atoms};
 use search_theory::{Entry, Why};
-use std::alloc::Global;
 use trail::Trail;
 
 /// What going through all nogoods finds.
@@ -70,65 +72,6 @@ fn is_true(value: Option<Value>) -> bool
     }
 }
 
-// Whether all these atoms are true.
-fn are_true(trail: &Trail, atoms: &[AtomId]) -> bool
-    requires { Each (λ a. a < trail.now.atoms) atoms.now }
-    ensures yes { result ≡ true → Each (λ a. value_of trail.now.stack a ≡ Some True) atoms.now }
-    ensures no { result ≡ false → ¬ Each (λ a. value_of trail.now.stack a ≡ Some True) atoms.now }
-{
-    for a in atoms {
-        if !is_true(trail.value(*a)) {
-            return false;
-        }
-    }
-    true
-}
-
-// Whether none of these atoms is true or must-be-true.
-fn are_not_up(trail: &Trail, atoms: &[AtomId]) -> bool
-    requires { Each (λ a. a < trail.now.atoms) atoms.now }
-    ensures yes { result ≡ true → Each (λ a. ¬ Holds trail.now.stack (lit a true)) atoms.now }
-    ensures no { result ≡ false → ¬ Each (λ a. ¬ Holds trail.now.stack (lit a true)) atoms.now }
-{
-    for a in atoms {
-        if is_up(trail.value(*a)) {
-            return false;
-        }
-    }
-    true
-}
-
-// Whether it is unassigned or must-be-true.
-fn may_rise(value: Option<Value>) -> bool
-    ensures yes { result ≡ true → (value ≡ None) ⊎ (value ≡ Some MustBe) }
-    ensures no { result ≡ false → ¬ ((value ≡ None) ⊎ (value ≡ Some MustBe)) }
-{
-    match value {
-        None => true,
-        Some(Value::MustBe) => true,
-        Some(_) => false,
-    }
-}
-
-// The body atom of the instance, where it is active.
-fn active_body(trail: &Trail, row: &Row, rule: &Rule) -> Option<AtomId>
-    requires body { (b : ℕ) → row.now.body ≡ Some b → b < trail.now.atoms }
-    requires pos { Each (λ a. a < trail.now.atoms) rule.now.pos }
-    requires neg { Each (λ a. a < trail.now.atoms) rule.now.neg }
-    ensures some { IfSome result (λ b. (row.now.body ≡ Some b) × IsOpenBody trail.now.stack (instance_of rule.now) b) }
-    ensures none { IfNone result ((b : ℕ) → row.now.body ≡ Some b → ¬ IsOpenBody trail.now.stack (instance_of rule.now) b) }
-{
-    let body = row.body?;
-    if may_rise(trail.value(body))
-        && are_true(trail, rule.pos.as_slice())
-        && are_not_up(trail, rule.neg.as_slice())
-    {
-        Some(body)
-    } else {
-        None
-    }
-}
-
 fn is_closed(entry: &Entry) -> bool
     ensures yes { result ≡ true → (reason : Option ℕ) × (entry.now.why ≡ Closed reason) }
     ensures no { result ≡ false → (reason : Option ℕ) → ¬ (entry.now.why ≡ Closed reason) }
@@ -169,38 +112,65 @@ impl Search {
     pub fn due(&self) -> Option<u32>
         ensures some { IfSome result (IsDue self.now) }
         ensures none { IfNone result (NothingIsDue self.now) }
+        ensures small { NamesAreSmall self.now }
     {
-        let mut m: u32 = 0;
-        for rule in self.program.rules() {
-            if !self.flags[m as usize] && are_up(&self.trail, rule.pos.as_slice()) {
-                return Some(m);
+        // With the length comes what the pool of terms promises of itself.
+        let _ = self.ground.terms.len();
+        for (m, atoms) in self.positives.iter().enumerate() {
+            if self.is_due(m as u32, atoms) {
+                return Some(m as u32);
             }
-            m += 1;
         }
         None
+    }
+
+    // Whether the rule's instance isn't made, and its positive atoms are true or must-be-true.
+    fn is_due(&self, rule: u32, atoms: &Option<List<AtomId>>) -> bool
+        requires { slice_get self.now.positives rule ≡ Some atoms.now }
+        ensures yes { result ≡ true → (xs : List ℕ) × (atoms.now ≡ Some xs) × AreUp self.now.stack xs × (¬ IsRuleMade self.now rule) }
+        ensures no { result ≡ false → (xs : List ℕ) → atoms.now ≡ Some xs → AreUp self.now.stack xs → IsRuleMade self.now rule }
+    {
+        match atoms {
+            None => false,
+            Some(atoms) => are_up(&self.trail, atoms.as_slice()) && !self.is_made(rule),
+        }
+    }
+
+    // Whether the rule's instance was made.
+    fn is_made(&self, rule: u32) -> bool
+        ensures yes { result ≡ true → IsRuleMade self.now rule }
+        ensures no { result ≡ false → ¬ IsRuleMade self.now rule }
+    {
+        let binding = List::new(self.alloc);
+        let maker = Maker::Rule { rule, binding };
+        self.ground.instances.find(&maker).is_some()
     }
 
     /// The first active body.
     pub fn active(&self) -> Option<AtomId>
-        ensures some { IfSome result (λ b. (b < ids self.now) × ((k : Made ℕ) × (k ∈ self.now.made) × IsActive (state_of self.now) k b)) }
-        ensures none { IfNone result (NoneActive (state_of self.now)) }
+        ensures some { IfSome result (λ b. (b < ids self.now) × ((k : Made Rule) × (k ∈ self.now.made) × IsActive (state_of self.now) k b)) }
+        ensures none { IfNone result (NoChoice self.now) }
     {
-        let rules = self.program.rules();
-        for row in &self.made {
-            if let Some(body) = active_body(&self.trail, row, &rules[row.rule as usize]) {
-                return Some(body);
-            }
-        }
-        None
+        self.choices
+            .next_active(&self.ground.instances, &self.trail)
+    }
+
+    // Whether the id is that of a named atom, and not of a body.
+    fn is_named(&self, atom: AtomId) -> bool
+        requires { atom < ids self.now }
+        ensures yes { result ≡ true → IsNamed self.now atom }
+        ensures no { result ≡ false → ¬ IsNamed self.now atom }
+    {
+        self.ground.atoms.pred_of(atom).is_some()
     }
 
     /// The first named atom that is must-be-true.
     pub fn must_be(&self) -> Option<AtomId>
-        ensures some { IfSome result (λ x. (x < length self.now.program.names) × (value_of self.now.stack x ≡ Some MustBe)) }
-        ensures none { IfNone result ((x : ℕ) → x < length self.now.program.names → ¬ (value_of self.now.stack x ≡ Some MustBe)) }
+        ensures some { IfSome result (λ x. IsNamed self.now x × (value_of self.now.stack x ≡ Some MustBe)) }
+        ensures none { IfNone result ((x : ℕ) → IsNamed self.now x → ¬ (value_of self.now.stack x ≡ Some MustBe)) }
     {
-        for x in 0..self.program.len() {
-            if self.trail.value(AtomId(x)) == Some(Value::MustBe) {
+        for x in 0..self.ground.atoms.len() {
+            if self.trail.value(AtomId(x)) == Some(Value::MustBe) && self.is_named(AtomId(x)) {
                 return Some(AtomId(x));
             }
         }
@@ -209,28 +179,53 @@ impl Search {
 
     /// The first named atom that is unassigned.
     pub fn unassigned(&self) -> Option<AtomId>
-        ensures some { IfSome result (λ x. (x < length self.now.program.names) × (value_of self.now.stack x ≡ None)) }
-        ensures none { IfNone result ((x : ℕ) → x < length self.now.program.names → ¬ (value_of self.now.stack x ≡ None)) }
+        ensures some { IfSome result (λ x. IsNamed self.now x × (value_of self.now.stack x ≡ None)) }
+        ensures none { IfNone result ((x : ℕ) → IsNamed self.now x → ¬ (value_of self.now.stack x ≡ None)) }
     {
-        for x in 0..self.program.len() {
-            if self.trail.value(AtomId(x)).is_none() {
+        for x in 0..self.ground.atoms.len() {
+            if self.trail.value(AtomId(x)).is_none() && self.is_named(AtomId(x)) {
                 return Some(AtomId(x));
             }
         }
         None
     }
 
-    /// The named atoms that are true, in the order of their ids.
-    pub fn true_atoms(&self, alloc: Global) -> Result<Vec<AtomId>, OutOfMemory>
-        ensures { IfOk result (λ v. AreTrueIds self.now v.items) }
+    // The named atoms that are true, in the order of their ids.
+    fn true_ids(&self) -> Result<Vec<AtomId>, OutOfMemory>
+        ensures { IfOk result (λ v. AreTrueNames self.now (ids self.now) v.items) }
     {
-        let mut atoms = Vec::new(alloc);
-        for x in 0..self.program.len() {
-            if is_true(self.trail.value(AtomId(x))) {
+        let mut atoms = Vec::new(self.alloc);
+        for x in 0..self.ground.atoms.len() {
+            if is_true(self.trail.value(AtomId(x))) && self.is_named(AtomId(x)) {
                 atoms.push(AtomId(x))?;
             }
         }
         Ok(atoms)
+    }
+
+    /// The named atoms that are true, in the order of a set line. It costs one sort.
+    pub fn true_atoms(&self) -> Result<Vec<AtomId>, OutOfMemory>
+        ensures { IfOk result (λ v. AreTrueIds self.now v.items) }
+    {
+        // With the length comes what the arena promises of itself.
+        let _ = self.ground.atoms.len();
+        let atoms = self.true_ids()?;
+        sorted_atoms(
+            self.alloc,
+            atoms.as_slice(),
+            &self.ground.atoms,
+            &self.ground.terms,
+        )
+    }
+
+    /// The line of the set of these atoms.
+    pub fn set_line(&self, atoms: &[AtomId]) -> Result<List<u8>, OutOfMemory>
+        requires { AreTrueIds self.now atoms.now }
+        ensures { IfOk result (λ line. (set : List Fact) → Names self.now.names atoms.now (map OfProgram set) → IsSetLine set line) }
+    {
+        // With the length comes what the arena promises of itself.
+        let _ = self.ground.atoms.len();
+        set_line(self.alloc, atoms, &self.ground.atoms, &self.ground.terms)
     }
 
     /// Whether a closed atom is on the trail.
@@ -247,10 +242,10 @@ impl Search {
     }
 
     /// The literals chosen, the newest first.
-    pub fn chosen(&self, alloc: Global) -> Result<Vec<Lit>, OutOfMemory>
+    pub fn chosen(&self) -> Result<Vec<Lit>, OutOfMemory>
         ensures { IfOk result (λ lits. lits.items ≡ chosen_of self.now.stack) }
     {
-        let mut lits = Vec::new(alloc);
+        let mut lits = Vec::new(self.alloc);
         let entries = self.trail.entries();
         let mut left = entries.len();
         while left > 0 {

@@ -1,4 +1,4 @@
-//! The state of a search for answer sets over a program's instances.
+//! The state of a search for answer sets over a core.
 //!
 //! Contracts see a search as a state of the search's theory: each step is one event, and each look at the state answers a question
 //! of the theory. What follows what, and why that is right, is the enumerator's.
@@ -6,9 +6,13 @@
 
 mod draft;
 mod finding;
+mod making;
+mod naming;
+mod resolving;
 mod search;
 mod visit;
 
 pub use finding::Finding;
-pub use search::{Row, Search, Stage};
+pub use resolving::{Part, Resolved};
+pub use search::{Search, Stage};
 pub use visit::{Visit, look_at};

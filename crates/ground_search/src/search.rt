@@ -1,36 +1,29 @@
 //! What a search keeps, and its steps. Each step is one event of the search's theory.
 
-ghost use Rattle.std.specs.Prelude.{◌≡◌, ◌<◌, ◌^◌, ◌++◌, ◌∷◌, ◌⊎◌, [], ℕ, List, None, Some, true, false, length, map, take, slice_get, OnOk, OnErr, IfOk};
+ghost use Rattle.std.specs.Prelude.{◌≡◌, ◌<◌, ◌^◌, ◌++◌, ◌∷◌, ◌⊎◌, [], ℕ, List, None, Some, true, false, length, OnOk, IfOk};
 ghost use Rattle.alpha_outside.specs.declared.literal.Lit.{Lit};
 ghost use Rattle.alpha_outside.specs.declared.literal.Value.TheVariants.{False};
 ghost use Rattle.search_theory.specs.declared.entry.Why.TheVariants.{Given, Chosen, Closed};
 ghost use Rattle.search_theory.specs.Values.{value_of, level_of, back_to, all_at_0};
 ghost use Rattle.search_theory.specs.Events.{decision, phase_struck, phase_learned, lits_at};
-ghost use Rattle.search_theory.specs.Tables.{nogoods_of as nogoods_in};
 ghost use Rattle.search_theory.specs.States as phase;
-ghost use Rattle.lists.specs.Lists.{Each, HasNoRepeats};
-ghost use Rattle.asp_meaning.specs.Lines.{IsSetLine};
-ghost use Rattle.asp_meaning.specs.Output.{IsBraceLine};
-ghost use Rattle.plain_program.specs.Programs.{IsWithin, atom_at, needs_body_of};
 ghost use Rattle.nogood_store.specs.Stored.{HasNoAtomTwice};
-ghost use Rattle.ground_search.specs.Drafts.{IsDraft, IsStorable, nogood_of, stored_of};
 ghost use Rattle.trail.specs.Assigning.{MayBecome, MayDecide};
-ghost use Rattle.ground_search.specs.Searching.{Searching, ids, assigned, phase_of, rule_at, made_of, LitsAreBelow, is_empty, is_level_0, with_instance, fresh};
+ghost use Rattle.search_rules.specs.Stage.{IsGroundCore};
+ghost use Rattle.ground_search.specs.Searching.{ids, assigned, phase_of, LitsAreBelow, is_empty, is_level_0, fresh};
 
-use crate::draft::{Draft, nogoods_of};
 use alpha_outside::{AtomId, List, Lit, NogoodId, OutOfMemory, Value};
+use atom_pool::{AtomPool, Ground, Instances};
+use choice_manager::Choices;
+use core_rules::Core;
 use nogood_store::NogoodStore;
-use plain_program::PlainProgram;
 use std::alloc::Global;
 use std::marker::Model;
+use term_pool::TermPool;
 use trail::Trail;
 
-/// An instance that was made: the number of its rule, and its body atom.
-#[derive(Clone, Copy, Debug)]
-pub struct Row {
-    pub rule: u32,
-    pub body: Option<AtomId>,
-}
+/// The most rules that have numbers.
+const MOST: usize = 0xffff_ffff;
 
 /// What has to come next.
 #[derive(Clone, Copy, Debug, PartialEq, Eq)]
@@ -49,15 +42,17 @@ pub enum Stage {
     Over,
 }
 
-/// A search over the instances of a program.
+/// A search over a core.
 #[derive(Drop)]
 pub struct Search {
-    pub(crate) program: PlainProgram,
-    /// The number of the instance of each body atom, whose ids follow those of the program's atoms.
-    pub(crate) bodies: Vec<u32>,
-    pub(crate) made: Vec<Row>,
-    /// Whether the instance of each rule was made.
-    pub(crate) flags: Vec<bool>,
+    pub(crate) alloc: Global,
+    pub(crate) core: Core,
+    pub(crate) ground: Ground,
+    /// How many terms were noted.
+    pub(crate) noted: u32,
+    /// For the rules that were looked at, the ids of the positive atoms; none where one of these has too large a term.
+    pub(crate) positives: Vec<Option<List<AtomId>>>,
+    pub(crate) choices: Choices,
     pub(crate) nogoods: NogoodStore,
     pub(crate) trail: Trail,
     closing: bool,
@@ -65,30 +60,44 @@ pub struct Search {
 }
 
 impl Model for Search {
-    ghost use Rattle.ground_search.specs.Searching.{Searching, searching, Ties};
+    ghost use Rattle.ground_search.specs.Searching.{Searching, searching, Ties, Fields};
+    ghost use Rattle.core_rules.specs.contracts.rules.CoreTerm as term;
+    ghost use Rattle.asp_meaning.specs.contracts.value.Value as value;
+    ghost use Rattle.std.specs.Coded.{codes};
 
     ghost Value = { Searching };
 
-    ghost view = { λ s. searching s.program s.bodies.items s.made.items s.nogoods s.trail.stack s.closing s.stage };
+    ghost coded = { Prim.hlevel (codes, term.the_row.coded, value.the_row.coded) };
 
-    ghost invariant = { λ s. Ties s.program s.bodies.items s.made.items s.flags.items s.nogoods s.trail.atoms };
+    ghost view = { λ s. searching s.core s.ground.terms s.noted s.ground.atoms s.ground.instances s.positives.items s.choices s.nogoods s.trail.stack s.closing s.stage };
+
+    ghost invariant = { λ s. Ties (record { core = s.core; nodes = s.ground.terms; noted = s.noted; pool = s.ground.atoms; made = s.ground.instances; positives = s.positives.items; choices = s.choices; store = s.nogoods; places = s.trail.atoms }) };
 }
 
 impl Search {
-    /// A search over the program's instances, before any event but those that name its atoms.
-    pub fn new(alloc: Global, program: PlainProgram) -> Result<Search, OutOfMemory>
-        ensures { IfOk result (λ s. s ≡ fresh program) }
+    /// A search over the core, before any event. It takes no memory.
+    ///
+    /// Want of memory is answered where there are 4,294,967,296 rules.
+    pub fn new(alloc: Global, core: Core) -> Result<Search, OutOfMemory>
+        requires { IsGroundCore core }
+        ensures { IfOk result (λ s. s ≡ fresh core) }
     {
-        let trail = trail_for(alloc, program.len())?;
-        let mut flags = Vec::new(alloc);
-        flags.resize(program.rules().len(), false)?;
+        if core.rules.len() > MOST {
+            return Err(OutOfMemory);
+        }
         Ok(Search {
-            program,
-            bodies: Vec::new(alloc),
-            made: Vec::new(alloc),
-            flags,
+            alloc,
+            core,
+            ground: Ground {
+                terms: TermPool::new(alloc),
+                atoms: AtomPool::new(alloc),
+                instances: Instances::new(alloc),
+            },
+            noted: 0,
+            positives: Vec::new(alloc),
+            choices: Choices::new(alloc),
             nogoods: NogoodStore::new(alloc),
-            trail,
+            trail: Trail::new(alloc),
             closing: false,
             stage: Stage::Free,
         })
@@ -99,32 +108,6 @@ impl Search {
         ensures { phase_of result ≡ self.now.phase }
     {
         self.stage
-    }
-
-    /// The number of instances made.
-    pub fn instances(&self) -> u32
-        ensures { result ≡ length self.now.made }
-    {
-        self.made.len() as u32
-    }
-
-    /// Whether the rule's instance has a body atom.
-    pub fn needs_body(&self, rule: u32) -> bool
-        requires { rule < length self.now.program.rules }
-        ensures needs { result ≡ needs_body_of (rule_at self.now.program.rules rule) }
-        ensures within { IsWithin (length self.now.program.names) (rule_at self.now.program.rules rule) }
-    {
-        self.program.needs_body(rule)
-    }
-
-    /// The line of the set of these atoms.
-    pub fn set_line(&self, alloc: Global, atoms: &[AtomId]) -> Result<List<u8>, OutOfMemory>
-        requires there { Each (λ x. x < length self.now.program.names) atoms.now }
-        requires distinct { HasNoRepeats atoms.now }
-        ensures line { IfOk result (IsSetLine (map (atom_at self.now.program.names) atoms.now)) }
-        ensures whole { IfOk result IsBraceLine }
-    {
-        self.program.set_line(alloc, atoms)
     }
 
     /// Gives the atom the value, by the nogood.
@@ -175,23 +158,6 @@ impl Search {
         self.stage = Stage::Free;
     }
 
-    /// Names the body atom of the next instance.
-    pub fn name_body(&mut self) -> Result<AtomId, OutOfMemory>
-        ensures ok { IfOk result (λ x. (x ≡ ids self.old) × (self.new ≡ record self.old { bodies = self.old.bodies ++ length self.old.made ∷ [] })) }
-        ensures err { OnErr result (self.new ≡ self.old) }
-    {
-        let named = self.program.len();
-        let count = self.bodies.len();
-        if count >= 0xffff_ffff - named as usize {
-            return Err(OutOfMemory);
-        }
-        self.trail.reserve_atom()?;
-        match self.bodies.push(self.made.len() as u32) {
-            Ok(()) => Ok(AtomId(named + count as u32)),
-            Err(_) => Err(OutOfMemory),
-        }
-    }
-
     /// Notes that a set was found.
     pub fn show(&mut self)
         ensures { self.new ≡ record self.old { phase = phase.Found } }
@@ -220,65 +186,6 @@ impl Search {
         let root = are_at_0(&self.trail, self.nogoods.lits(nogood));
         self.stage = stage_struck(self.stage, root);
     }
-
-    /// Makes the instance of the rule, with this body atom: its nogoods are stored.
-    pub fn make(
-        &mut self,
-        alloc: Global,
-        rule: u32,
-        body: Option<AtomId>,
-    ) -> Result<(), OutOfMemory>
-        requires there { rule < length self.old.program.rules }
-        requires body { (b : ℕ) → body ≡ Some b → b < ids self.old }
-        ensures { OnOk result (self.new ≡ with_instance self.old (record { maker = rule; inst = rule_at self.old.program.rules rule; body = body })) }
-    {
-        let count = self.made.len();
-        if count >= 0xffff_ffff {
-            return Err(OutOfMemory);
-        }
-        let row = Row { rule, body };
-        let drafts = self.drafts(alloc, &row)?;
-        store_all(&mut self.nogoods, drafts.as_slice())?;
-        match self.made.push(row) {
-            Ok(()) => (),
-            Err(_) => return Err(OutOfMemory),
-        }
-        self.flags[rule as usize] = true;
-        Ok(())
-    }
-
-    // The nogoods of the instance that the row tells of.
-    fn drafts(&self, alloc: Global, row: &Row) -> Result<Vec<Draft>, OutOfMemory>
-        requires there { row.now.rule < length self.now.program.rules }
-        requires body { (b : ℕ) → row.now.body ≡ Some b → b < ids self.now }
-        ensures table { IfOk result (λ v. map nogood_of v.items ≡ nogoods_in (made_of self.now.program.rules row.now)) }
-        ensures drafts { IfOk result (λ v. Each (IsDraft (ids self.now)) v.items) }
-    {
-        nogoods_of(alloc, &self.program.rules()[row.rule as usize], row.body)
-    }
-}
-
-// A trail with a place for each of so many atoms.
-fn trail_for(alloc: Global, atoms: u32) -> Result<Trail, OutOfMemory>
-    ensures { IfOk result (λ t. t ≡ record { stack = []; atoms = atoms; kept = 0; visited = 0; visits = [] }) }
-{
-    let mut trail = Trail::new(alloc);
-    for _ in 0..atoms {
-        trail.reserve_atom()?;
-    }
-    Ok(trail)
-}
-
-// Stores nogoods, one after another.
-fn store_all(nogoods: &mut NogoodStore, drafts: &[Draft]) -> Result<(), OutOfMemory>
-    requires { Each IsStorable drafts.now }
-    ensures all { OnOk result (nogoods.new ≡ nogoods.old ++ map stored_of drafts.now) }
-    ensures some { (k : ℕ) × (nogoods.new ≡ nogoods.old ++ map stored_of (take k drafts.now)) }
-{
-    for draft in drafts {
-        nogoods.add(draft.lits.as_slice(), draft.head)?;
-    }
-    Ok(())
 }
 
 // Whether all literals stand at level 0.

@@ -46,6 +46,7 @@ letters instance_of = record {
   instance_of = instance_of;
   same_maker = nat_eq;
   same_atom = nat_eq;
+  is_user = λ a. true;
   in_line_order = rising;
   names_atom = λ terms pred args a. pred_eq pred (User false ((97 + a) ∷ []) 0);
   names_maker = λ terms maker m. is_rule maker m;

@@ -6,11 +6,12 @@ use Rattle.alpha_outside.specs.declared.pred.Pred.{Pred}
 use Rattle.alpha_outside.specs.declared.maker.Maker.{Maker}
 use Rattle.search_theory.specs.Instances.{Instance, IsFounded, IsOrdered, Rules}
 
--- the instance of each maker, and what a journal says of atoms and makers, all of which are user atoms
+-- the instance of each maker, and what a journal says of atoms and makers. Only user atoms may be named, since all others are of aggregates
 pub record Ground (A K : Type 0) : Type 0 where
   pub instance_of : K → Option (Instance A)
   pub same_maker : K → K → Bool
   pub same_atom : A → A → Bool
+  pub is_user : A → Bool
   pub in_line_order : List A → Bool
   pub names_atom : List Node → Pred → List ℕ → A → Bool
   pub names_maker : List Node → Maker → K → Bool
@@ -37,8 +38,8 @@ numberless g = record {
   give = λ n a. tt;
   next_number = λ n a. 0;
   is_numbered = λ n a. true;
-  may_be_named = λ n a. true;
-  is_user = λ a. true;
+  may_be_named = λ n a. g.is_user a;
+  is_user = g.is_user;
   in_line_order = g.in_line_order;
   names_atom = g.names_atom;
   names_maker = g.names_maker;

@@ -3,7 +3,7 @@
 //!
 //! Beside each node stand the size and the text's length of its term, which were counted from those of its parts when it was added.
 
-ghost use Rattle.std.specs.Prelude.{◌≡◌, ◌+◌, ◌<◌, ◌≤◌, ◌^◌, [], Some, IfOk, IfErr, length, slice_get};
+ghost use Rattle.std.specs.Prelude.{◌≡◌, ◌+◌, ◌<◌, ◌≤◌, ◌^◌, ℕ, [], Some, IfOk, IfErr, length, slice_get};
 ghost use Rattle.asp_meaning.specs.Lines.{value_text};
 ghost use Rattle.asp_meaning.specs.Orders.{value_cmp};
 ghost use Rattle.term_pool.specs.Interning.{NoneTwice, IsInterned};
@@ -53,6 +53,7 @@ impl TermPool {
         ensures len { result ≡ length self.now }
         ensures pool { IsPool self.now }
         ensures distinct { NoneTwice (values self.now) }
+        ensures small { (id : ℕ) → id < length self.now → value_size (value_at self.now id) ≤ most_symbols }
     {
         self.table.len() as u32
     }

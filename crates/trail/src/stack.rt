@@ -122,6 +122,13 @@ impl Trail {
         Ok(())
     }
 
+    /// How many atoms have a place.
+    pub fn atoms(&self) -> u32
+        ensures { result ≡ self.now.atoms }
+    {
+        self.slots.len() as u32
+    }
+
     pub fn value(&self, a: AtomId) -> Option<Value>
         requires { a < self.now.atoms }
         ensures { result ≡ value_of self.now.stack a }

@@ -1,5 +1,5 @@
 use Rattle.alpha.proofs.Clauses.{reported, output, output_appends, events_appended, unnoted, caused, refused_words}
-use Rattle.alpha.proofs.Accepted.{too_long_comes, refusal_comes, accepted_ends, shown_are_answer_sets, shown_once, finished_is_complete, journal_is_legal, budget_is_spent, lines_are_shown_events}
+use Rattle.alpha.proofs.Accepted.{too_long_comes, refusal_comes, accepted_ends, shown_are_answer_sets, shown_once, finished_is_complete, journal_is_legal, budget_is_spent, term_too_large, lines_are_shown_events}
 use Rattle.alpha.proofs.Appended.{name_kept}
 use Rattle.alpha.proofs.run.run.Goals as goal
 
@@ -26,6 +26,10 @@ returns-clause-lines_are_shown_events g c = λ P b E a is noted.
 pub returns-clause-budget_is_spent : goal.returns-clause-budget_is_spent
 returns-clause-budget_is_spent g c = λ P E number printed a noted e.
     budget_is_spent _ _ _ _ _ P a c.report.result (reported _ _ _ _ _ _ _ c.work-status.ensures.outcome c.report.ensures.same) E noted number printed e
+
+pub returns-clause-term_too_large : goal.returns-clause-term_too_large
+returns-clause-term_too_large g c = λ P E line size printed a noted e.
+    term_too_large _ _ _ _ _ P a c.report.result (reported _ _ _ _ _ _ _ c.work-status.ensures.outcome c.report.ensures.same) E noted line size printed e
 
 pub returns-clause-output_is_appended : goal.returns-clause-output_is_appended
 returns-clause-output_is_appended g c = output_appends _ _ _ _ _ c.report.result (reported _ _ _ _ _ _ _ c.work-status.ensures.outcome c.report.ensures.same)

@@ -1,18 +1,12 @@
-use Rattle.std.proofs.Common.{◌∙◌, ap, subst, ℕ, map, List, rules}
-use Rattle.std.specs.List.Sorted.{IsPermutation}
-use Rattle.asp_meaning.specs.Lines.{atom_cmp, line_of}
+use Rattle.std.proofs.Common.{◌∙◌, ap, map}
+use Rattle.asp_meaning.specs.Lines.{line_of}
 use Rattle.atom_pool.specs.Meanings.{atom_at}
-use Rattle.answer_printer.proofs.OrderLemmas.{atom_cmp_total}
-use Rattle.answer_printer.proofs.SortLemmas.{sorted_by_key}
 use Rattle.answer_printer.proofs.LineLemmas.{sorted_line}
 use Rattle.answer_printer.proofs.WriteLemmas.{if_ok}
 use Rattle.answer_printer.proofs.line.set_line_of.Goals as goal
 
 pub returns : goal.returns
 returns c =
-    let ids : List ℕ = c.sort_unstable_by.new.self.items in
-    let moved : IsPermutation c.args.atoms.now ids = subst (λ l. IsPermutation l ids) c.in_ok-sorted.ensures.items c.sort_unstable_by.ensures.permutation in
     if_ok c.line_in_order.result (λ line h.
-    sorted_line c.args.terms.now c.args.pool.now c.requires.terms c.len.ensures.pool c.requires.beside c.args.atoms.now ids line c.requires.user c.requires.distinct moved
-    (sorted_by_key atom_cmp atom_cmp_total (atom_at c.args.terms.now c.args.pool.now) 0 ids c.sort_unstable_by.ensures.sorted (λ a r q k. search rules))
+    sorted_line c.args.terms.now c.args.pool.now c.args.atoms.now c.in_ok-sorted.sorted.items line c.in_ok-sorted.ensures.same c.in_ok-sorted.ensures.in_order
     (h ∙ ap (λ l. line_of (map (atom_at c.args.terms.now c.args.pool.now) l)) c.as_slice.ensures.value)) c.line_in_order.ensures

@@ -2,7 +2,7 @@ use Rattle.std.proofs.Common.{subst}
 use Rattle.std.proofs.lemmas.Result.{err_from_is_err_and}
 use Rattle.enumerator.specs.Moves.{MoveIs}
 use Rattle.enumerator.proofs.Stepping.{err_on}
-use Rattle.enumerator.proofs.Ending.{leaves_fault, shown_outcome, shown_fault, is_found}
+use Rattle.enumerator.proofs.Ending.{leaves_fault, ends_too_large, shown_outcome, shown_fault, is_found}
 use Rattle.enumerator.proofs.settle.settle.Goals as goal
 
 pub returns-in_err-show-in-Full-clause-err : goal.returns-in_err-show-in-Full-clause-err
@@ -30,3 +30,7 @@ returns-in_ok-show-in-Full-clause-err g c = err_on c.settle_shown.result
     (λ f fault g' fits s. shown_fault c.args.search.now c.show.new.search _ _ _ _ c.in_ok-show-in-Full.ensures.shown c.in_ok-show-in-Full.ensures.carries
     _ c.args.left.now c.args.rest.now _ _ _ _ f c.requires.room c.in_ok-show-in-Full.ensures.later fault g' fits s)
     c.settle_shown.ensures.err
+
+pub returns-in-TooLarge-clause-ok : goal.returns-in-TooLarge-clause-ok
+returns-in-TooLarge-clause-ok g c = λ g' fits s.
+    ends_too_large g' c.args.search.now _ _ c.args.left.now c.args.rest.now fits s c.requires.room c.in-TooLarge.line c.in-TooLarge.size (subst (λ m. MoveIs c.args.search.now m) c.in-TooLarge.is c.requires.next)

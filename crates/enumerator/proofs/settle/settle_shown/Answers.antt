@@ -36,7 +36,7 @@ back-requires-clause-some g c = λ none. some_chosen _ c.in-Ok.chosen.items _ c.
     (sym (ap (λ (z : Searching). chosen z.stack) c.in_ok-learn.ensures.learned) ∙ none)
 
 pub returns-clause-ok : goal.returns-clause-ok
-returns-clause-ok g c = outcome_back c.back.result c.args.search.now c.learn.new.search c.back.new.search _ _ _ c.args.left c.in_ok-learn.ensures.learned c.requires.found.firm c.requires.found.kept c.in_ok-learn.ensures.ids_fit
+returns-clause-ok g c = outcome_back c.back.result c.args.search.now c.learn.new.search c.back.new.search _ _ _ c.args.left c.in_ok-learn.ensures.learned c.requires.found.firm c.requires.found.kept c.requires.found.all_looked c.in_ok-learn.ensures.ids_fit
     (some_chosen _ c.in-Ok.chosen.items _ c.in-Ok.chosen.ok.0 (sym c.is_empty.ensures ∙ c.if-is_empty.false) c.in-Ok.ensures)
     c.if-left-eq0.false c.in_ok-learn.ensures.carries c.back.ensures.goes_on c.back.ensures.back c.back.ensures.carries
 
@@ -44,7 +44,7 @@ pub returns-clause-err : goal.returns-clause-err
 returns-clause-err g c = err_on c.back.result
     (λ f fault. (
       some_left c.args.left c.if-left-eq0.false,
-      λ rest. fault_same c.args.search.now c.learn.new.search _ _ _ rest _ _ _ f (ap (λ (z : Searching). z.program) c.in_ok-learn.ensures.learned) c.in_ok-learn.ensures.later c.in_ok-learn.ensures.carries
+      λ rest. fault_same c.args.search.now c.learn.new.search _ _ _ rest _ _ _ f (ap (λ (z : Searching). z.core) c.in_ok-learn.ensures.learned) c.in_ok-learn.ensures.later c.in_ok-learn.ensures.carries
           (round_fault c.learn.new.search _ _ rest _ _ f fault),
     ))
     c.back.ensures.err

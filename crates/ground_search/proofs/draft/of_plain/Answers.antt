@@ -2,14 +2,14 @@ use Rattle.std.proofs.Common.{rules, ◌≡◌, sym, subst, true, false, ◌∷�
 use Rattle.lists.specs.Lists.{Each}
 use Rattle.search_theory.specs.Values.{lit}
 use Rattle.search_theory.specs.Tables.{lits_of}
-use Rattle.ground_search.specs.Searching.{LitsAreBelow}
+use Rattle.ground_search.specs.Searching.{AreBelow, LitsAreBelow}
 use Rattle.ground_search.specs.Drafts.{IsDraft}
 use Rattle.ground_search.proofs.Drafting.{below_more, below_lits_of}
 use Rattle.ground_search.proofs.draft.of_plain.Goals as goal
 
 pub returns-clause-drafts : goal.returns-clause-drafts
 returns-clause-drafts c = λ n head positive.
-    let are : c.as_slice-2.result.now ≡ lit c.args.head false ∷ lits_of true c.args.rule.now.pos = search rules in
+    let are : c.as_slice-2.result.now ≡ lit c.args.head false ∷ lits_of true c.args.made.now.pos = search rules in
     c.in_ok-push_set.ensures.drafts n
-    (subst (LitsAreBelow n) (sym are) (below_more n (lit c.args.head false) (lits_of true c.args.rule.now.pos) head (below_lits_of n true c.args.rule.now.pos positive)))
+    (subst (LitsAreBelow n) (sym are) (below_more n (lit c.args.head false) (lits_of true c.args.made.now.pos) head (below_lits_of n true c.args.made.now.pos positive)))
     (subst (Each (IsDraft n)) (sym c.new-drafts.ensures.items) tt)

@@ -1,5 +1,5 @@
 use Rattle.std.proofs.Common.{arith, sym, subst, map, ◌∙◌}
-use Rattle.ground_search.specs.Searching.{LitsAreBelow}
+use Rattle.ground_search.specs.Searching.{AreBelow, LitsAreBelow}
 use Rattle.ground_search.specs.Drafts.{nogood_of}
 use Rattle.ground_search.proofs.Drafting.{each_step, below_two, member_at}
 use Rattle.ground_search.proofs.draft.push_each.Goals as goal

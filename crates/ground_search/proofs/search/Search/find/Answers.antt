@@ -1,9 +1,9 @@
-use Rattle.std.proofs.Common.{◌≡◌, ◌⊎◌, ◌<◌, ◌+◌, ℕ, subst, arith, inl, inr, Some, drop}
+use Rattle.std.proofs.Common.{◌≡◌, ◌⊎◌, ◌<◌, ◌+◌, ℕ, subst, arith, inl, inr, Some, drop, length}
 use Rattle.std.specs.Prelude.{slice_get}
 use Rattle.lists.specs.Lists.{◌∈◌}
 use Rattle.nogood_store.specs.Stored.{Stored, nogood_of}
 use Rattle.search_theory.specs.Values.{Lit}
-use Rattle.ground_search.specs.Searching.{Searching, ids_of}
+use Rattle.ground_search.specs.Searching.{Searching, names_of}
 use Rattle.ground_search.specs.Visits.{VisitIs}
 use Rattle.ground_search.specs.Moves.{FoundIs}
 use Rattle.ground_search.specs.declared.visit.Visit.TheVariants.{Idle}
@@ -24,8 +24,8 @@ is_read c = record {
   headed = (c.head.ensures.0, c.head.ensures.1, c.head.ensures.2);
 }
 
-are_below : (c : After-head) (l : Lit) → l ∈ c.lits.result.now → l.atom < ids_of c.self.inside.program c.self.inside.bodies.items
-are_below c l among = read_below c.self.inside.nogoods c.id-item.result c.lits.result.now c.head.result (is_read c) (ids_of c.self.inside.program c.self.inside.bodies.items) c.self.invariant.lits_placed l among
+are_below : (c : After-head) (l : Lit) → l ∈ c.lits.result.now → l.atom < length (names_of c.self.inside.ground.terms c.self.inside.ground.atoms)
+are_below c l among = read_below c.self.inside.nogoods c.id-item.result c.lits.result.now c.head.result (is_read c) (length (names_of c.self.inside.ground.terms c.self.inside.ground.atoms)) c.self.invariant.lits_placed l among
 
 pub look_at-requires-clause-below : goal.look_at-requires-clause-below
 look_at-requires-clause-below c = λ l among. let below = are_below c l among in let placed = c.self.invariant.placed in omega arith
@@ -34,7 +34,7 @@ pub returns-in-Unit : goal.returns-in-Unit
 returns-in-Unit c =
     let after = (goal.at.returns-in-Unit c).After-head in
     subst (λ (v : Searching). FoundIs v (finding.Unit c.id-item.result c.in-Unit.atom c.in-Unit.value)) c.self.view_is (
-      gives_below c.self.inside.trail.stack (ids_of c.self.inside.program c.self.inside.bodies.items) (record { lits = c.lits.result.now; head = c.head.result }) (are_below after) c.in-Unit.atom c.in-Unit.value c.in-Unit.ensures,
+      gives_below c.self.inside.trail.stack (length (names_of c.self.inside.ground.terms c.self.inside.ground.atoms)) (record { lits = c.lits.result.now; head = c.head.result }) (are_below after) c.in-Unit.atom c.in-Unit.value c.in-Unit.ensures,
       (nogood_of (record { lits = c.lits.result.now; head = c.head.result }), nogood_at c.self.inside.nogoods c.id-item.result c.lits.result.now c.head.result (is_read after), c.in-Unit.ensures),
     )
 

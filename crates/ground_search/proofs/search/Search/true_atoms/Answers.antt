@@ -1,23 +1,17 @@
-use Rattle.std.proofs.Common.{◌∙◌, sym, subst, arith}
+use Rattle.std.proofs.Common.{List, ℕ, ap, sym, subst}
+use Rattle.lists.specs.Lists.{Each, SameSet}
+use Rattle.atom_pool.specs.Meanings.{IsUserAtom}
 use Rattle.ground_search.specs.Searching.{Searching}
-use Rattle.ground_search.specs.Moves.{AreTrueIds}
-use Rattle.ground_search.proofs.Listing.{listed_none, listed_more, listed_same, listed_all}
+use Rattle.ground_search.proofs.Listing.{both_ok, named_users, true_in_order}
 use Rattle.ground_search.proofs.search.Search.true_atoms.Goals as goal
-use Rattle.ground_search.proofs.search.Search.true_atoms.Goals.{then-is_true+in_ok-push, else-is_true}
 
-pub loop-x-init : goal.loop-x-init
-loop-x-init c = rw c.new-atoms.ensures.items (listed_none c.self.inside.trail.stack)
-
-pub loop-x-preserved : goal.loop-x-preserved
-loop-x-preserved c = elim c.if-is_true.branch [
-  | then-is_true+in_ok-push w ↦ (
-      let more = listed_more c.self.inside.trail.stack c.loop-x.x c.loop-x.atoms.items c.loop-x.invariant (sym c.value.ensures ∙ c.is_true.ensures.yes w.if-is_true.true) in
-      rw (w.atoms-is, w.in_ok-push.ensures.items) more)
-  | else-is_true w ↦ (
-      let same = listed_same c.self.inside.trail.stack c.loop-x.x c.loop-x.atoms.items c.loop-x.invariant (λ is. c.is_true.ensures.no w.if-is_true.false (c.value.ensures ∙ is)) in
-      rw w.atoms-is same)
-]
+pub sorted_atoms-requires-clause-user : goal.sorted_atoms-requires-clause-user
+sorted_atoms-requires-clause-user c =
+    subst (λ xs. Each (IsUserAtom c.self.inside.ground.atoms) xs) (sym c.as_slice.ensures.value)
+    (named_users c.args.self.now c.self.inside.ground.terms c.self.inside.ground.atoms (ap (λ (v : Searching). v.names) (sym c.self.view_is)) c.len.ensures.pool c.self.invariant.users c.in_ok-atoms.atoms.items
+    (λ x among. (c.in_ok-atoms.ensures.each_true x among).1))
 
 pub returns : goal.returns
-returns c = subst (λ (v : Searching). AreTrueIds v c.loop-x.atoms.items) c.self.view_is
-    (listed_all _ c.loop-x.x c.loop-x.atoms.items c.loop-x.invariant (let end = c.len-x-end.ensures in let past = c.loop-x-test.false in omega arith))
+returns c = both_ok c.sorted_atoms.result c.sorted_atoms.ensures.same c.sorted_atoms.ensures.in_order (λ v same ordered.
+    true_in_order c.args.self.now c.self.inside.ground.terms c.self.inside.ground.atoms (ap (λ (v : Searching). v.names) (sym c.self.view_is)) c.len.ensures.pool c.self.invariant.users c.in_ok-atoms.atoms.items
+    v.items c.in_ok-atoms.ensures (subst (λ (xs : List ℕ). SameSet xs v.items) c.as_slice.ensures.value same) ordered)

@@ -1,0 +1,18 @@
+use Rattle.std.proofs.Common.{◌≤◌, ◌<◌, ◌≡◌}
+use Rattle.enumerator.specs.Standing.{IsReady, Carries}
+use Rattle.enumerator.specs.Measures.{still_open}
+use Rattle.enumerator.proofs.searching.rounds.Given as goal
+
+abbrev pub invariant-rounds : goal.invariant-rounds
+invariant-rounds g l = record {
+  ready : IsReady l.search;
+  room : 0 < l.left;
+  core : l.search.core ≡ l.fn.search.core;
+  carries : Carries l.fn.search l.search (g.T.Trace.journal l.fn.trace) (g.T.Trace.journal l.trace) (g.O.Sink.held l.fn.out) (g.O.Sink.held l.out) (l.fn.left, l.fn.rest) (l.left, l.rest);
+  fewer : l.left ≤ l.fn.left;
+  out_later : g.O.Sink.faults l.fn.out ≤ g.O.Sink.faults l.out;
+  later : g.T.Trace.faults l.fn.trace ≤ g.T.Trace.faults l.trace;
+}
+
+abbrev pub decreases-rounds : goal.decreases-rounds
+decreases-rounds g l = still_open l.search.nogoods

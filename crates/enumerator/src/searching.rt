@@ -1,0 +1,89 @@
+//! The search: a look at all rules first, and then round after round until no set is left.
+
+ghost use Rattle.std.specs.Prelude.{◌≡◌, ◌≤◌, ◌<◌, IfOk, IfErr};
+ghost use Rattle.search_rules.specs.Stage.{IsGroundCore};
+ghost use Rattle.enumerator.specs.Search.{SearchAnswer};
+ghost use Rattle.enumerator.specs.Standing.{IsReady};
+ghost use Rattle.enumerator.specs.Settling.{StandsSomewhere, EndsFrom, LeavesFrom, ended};
+
+use crate::advance::advance;
+use crate::answers::{End, SearchFault, Settings};
+use crate::looking::look;
+use crate::settle::{Finish, settle};
+use alpha_outside::{Sink, Trace};
+use core_rules::Core;
+use ground_search::Search;
+use std::alloc::Global;
+
+// Takes rounds until the search ends; `left` is how many sets may still be written, and `rest` how many nogoods struck.
+fn rounds<O: Sink, T: Trace>(
+    search: &mut Search,
+    alloc: Global,
+    out: &mut O,
+    trace: &mut T,
+    left: &mut u64,
+    rest: &mut u64,
+) -> Result<Finish, SearchFault>
+    requires ready { IsReady search.old }
+    requires room { 0 < left.old }
+    requires stands { StandsSomewhere search.old (T.journal trace.old) (O.held out.old) left.old rest.old }
+    ensures out_later { O.faults out.old ≤ O.faults out.new }
+    ensures later { T.faults trace.old ≤ T.faults trace.new }
+    ensures fewer { left.new ≤ left.old }
+    ensures ok { IfOk result (EndsFrom search.old (T.journal trace.old) (T.journal trace.new) (O.held out.old) (O.held out.new) (left.old, rest.old) (left.new, rest.new)) }
+    ensures err { IfErr result (LeavesFrom search.old (T.journal trace.old) (T.journal trace.new) (O.held out.old) (O.held out.new) (left.old, rest.old)
+        (O.faults out.old, O.faults out.new) (T.faults trace.old, T.faults trace.new)) }
+{
+    'rounds: loop {
+        let found = advance(search, alloc, trace)?;
+        let finish = settle(search, alloc, found, out, trace, left, rest)?;
+        match finish {
+            Some(how) => return Ok(how),
+            None => (),
+        }
+    }
+}
+
+// How a search ended that wrote so many sets.
+fn end_by(finish: Finish, printed: u64) -> End
+    ensures { result ≡ ended finish printed }
+{
+    match finish {
+        Finish::Finished => End::Finished { printed },
+        Finish::LimitReached => End::LimitReached { printed },
+        Finish::Conflicts => End::Conflicts { printed },
+        Finish::TermTooLarge(line, size) => End::TermTooLarge {
+            line,
+            size,
+            printed,
+        },
+    }
+}
+
+/// Writes the line of each core answer set of the core, as one piece each, and notes each event.
+pub fn search<O: Sink, T: Trace>(
+    alloc: Global,
+    core: Core,
+    settings: Settings,
+    out: &mut O,
+    trace: &mut T,
+) -> Result<End, SearchFault>
+    requires ground { IsGroundCore core }
+    requires some { 0 < settings.limit }
+    ensures out_later { O.faults out.old ≤ O.faults out.new }
+    ensures trace_later { T.faults trace.old ≤ T.faults trace.new }
+    ensures answer { SearchAnswer core settings
+        (record { held = O.held out.old; held' = O.held out.new; faults = O.faults out.old; faults' = O.faults out.new })
+        (record { told = T.journal trace.old; told' = T.journal trace.new; faults = T.faults trace.old; faults' = T.faults trace.new })
+        result }
+{
+    let Ok(mut search) = Search::new(alloc, core) else {
+        return Err(SearchFault::OutOfMemory);
+    };
+    look(&mut search, alloc, trace)?;
+    let mut left = settings.limit;
+    let mut rest = settings.conflicts;
+    let finish = rounds(&mut search, alloc, out, trace, &mut left, &mut rest)?;
+    let printed = settings.limit - left;
+    Ok(end_by(finish, printed))
+}

@@ -1,4 +1,0 @@
-pub mod Statements
-pub mod Sets
-pub mod SetLines
-pub mod Named

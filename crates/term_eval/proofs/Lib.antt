@@ -1,0 +1,9 @@
+pub mod Layers
+pub mod Sizes
+pub mod Kept
+pub mod Leaves
+pub mod Arguments
+pub mod Operations
+pub mod TermInduction
+pub mod Outcomes
+pub mod Meeting
