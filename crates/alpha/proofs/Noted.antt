@@ -1,5 +1,5 @@
 -- What the events of a run tell, from the journal of its search.
-use Rattle.std.proofs.Common.{◌≡◌, refl, sym, ap, subst, ◌∙◌, ℕ, ◌+◌, arith, List, [], ◌∷◌, ◌++◌}
+use Rattle.std.proofs.Common.{◌≡◌, inl, inr, refl, sym, ap, subst, ◌∙◌, ℕ, ◌+◌, arith, List, [], ◌∷◌, ◌++◌}
 use Rattle.std.specs.Prelude.{reverse}
 use Rattle.std.proofs.lemmas.List.{reverse-append}
 use Rattle.alpha_outside.specs.declared.event.Event as outside
@@ -113,7 +113,10 @@ module _ (rules : Rules Numbers GroundAtom Maker) where
   says_shown s (say.Closed atom) e is = rw is (sym (no_sets (reverse (State.shown s))))
   says_shown s (say.Struck nogood) e is = rw is (sym (no_sets (reverse (State.shown s))))
   says_shown s (say.Kept nogood) e is = absurd is
-  says_shown s (say.Learned nogood how lits cover) e is = rw is.2 (sym (no_sets (reverse (State.shown s))))
+  says_shown s (say.Learned nogood how lits cover) e is = elim is.1 [
+    | inl chosen ↦ rw chosen.1 (sym (no_sets (reverse (State.shown s))))
+    | inr covered ↦ rw covered.1.2 (sym (no_sets (reverse (State.shown s))))
+  ]
   says_shown s (say.Back level) e is = rw is (sym (no_sets (reverse (State.shown s))))
   says_shown s (say.Wide atom count) e is = absurd is
   says_shown s (say.Shown ids) e is = rw is (shown_next s ids)
@@ -131,7 +134,7 @@ module _ (rules : Rules Numbers GroundAtom Maker) where
   says_struck s (say.Closed atom) e earlier is = rw is (omega arith)
   says_struck s (say.Struck nogood) e earlier is = rw is refl
   says_struck s (say.Kept nogood) e earlier is = absurd is
-  says_struck s (say.Learned nogood how lits cover) e earlier is = rw is.2 (omega arith)
+  says_struck s (say.Learned nogood how lits cover) e earlier is = elim is.1 [ inl chosen ↦ rw chosen.1 (omega arith) | inr covered ↦ rw covered.1.2 (omega arith) ]
   says_struck s (say.Back level) e earlier is = rw is (omega arith)
   says_struck s (say.Wide atom count) e earlier is = absurd is
   says_struck s (say.Shown ids) e earlier is = rw is (omega arith)

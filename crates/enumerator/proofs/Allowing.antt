@@ -1,23 +1,21 @@
 -- What a search finds to do next may come.
-use Rattle.std.proofs.Common.{◌≡◌, ℕ, ◌<◌, ◌≤◌, true, List, [], ◌∷◌, length, refl, sym, ◌∙◌, ap, subst, inl, inr, arith}
+use Rattle.std.proofs.Common.{◌≡◌, ℕ, ◌≤◌, true, List, [], ◌∷◌, refl, sym, ◌∙◌, subst, inl, inr, arith}
 use Rattle.std.specs.Prelude.{Option, Some, None, slice_get}
 use Rattle.lists.specs.Lists.{◌∈◌}
 use Rattle.lists.proofs.ListLemmas.{Each-at}
 use Rattle.asp_meaning.specs.Atoms.{Atom}
-use Rattle.core_rules.specs.declared.rules.CoreRule.{CoreRule}
 use Rattle.core_meaning.specs.Terms.{eval}
-use Rattle.core_meaning.specs.Atoms.{GroundAtom, User, atom_under}
-use Rattle.core_meaning.specs.Instances.{atoms_under}
+use Rattle.core_meaning.specs.Atoms.{GroundAtom, atom_under}
 use Rattle.search_theory.specs.declared.entry.Entry.{Entry}
 use Rattle.search_theory.specs.Values.{Value, Holds, lit, HasClosed, MustSinceClosed}
 use Rattle.search_theory.specs.Instances.{Instance}
-use Rattle.search_theory.specs.States.{Named, IsName, IsUp, IsMade, NoneActive, NoneDue, IsSettled, Names}
+use Rattle.search_theory.specs.States.{IsName, IsUp, NoneActive, NoneDue, IsSettled}
 use Rattle.search_theory.specs.Events.{Put, Choose, Close, Allowed, NoneStuck}
 use Rattle.search_theory.proofs.Basics.{get_in}
 use Rattle.search_theory.proofs.Central.{names_in}
 use Rattle.term_pool.specs.Nodes.{value_size, most_symbols}
 use Rattle.search_rules.specs.Tests.{Maker}
-use Rattle.search_rules.specs.Rules.{search_rules, instance_by}
+use Rattle.search_rules.specs.Rules.{search_rules}
 use Rattle.search_rules.proofs.RuleInstances.{some_same}
 use Rattle.ground_search.specs.Searching.{Searching, state_of}
 use Rattle.ground_search.specs.Moves.{IsRuleMade, NoChoice}
@@ -26,7 +24,7 @@ use Rattle.enumerator.specs.Moves.{MoveIs, IsQuiet, IsIdle, NoneIsDue, NoneSince
 use Rattle.enumerator.specs.declared.moves.Move.TheVariants as move
 use Rattle.enumerator.proofs.AllOf.{each_becomes}
 use Rattle.enumerator.proofs.Sizes.{too_large_above}
-use Rattle.enumerator.proofs.GroundRules.{RuleOf, rule_of, Becomes, becomes, body_fits, pos_terms, no_arithmetic}
+use Rattle.enumerator.proofs.GroundRules.{RuleOf, rule_of, becomes, body_fits, pos_terms, no_arithmetic}
 use Rattle.enumerator.proofs.Names.{get_at}
 use Rattle.enumerator.proofs.Readying.{made_for, looked_at}
 

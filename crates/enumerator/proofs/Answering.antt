@@ -10,7 +10,7 @@ use Rattle.asp_laws.proofs.Readable.{one_line_for_the_same_set}
 use Rattle.core_rules.specs.declared.rules.Core.{Core}
 use Rattle.search_theory.specs.Instances.{Rules}
 use Rattle.search_theory.specs.States.{State}
-use Rattle.search_theory.specs.Events.{Event, NameTerm, NameAtom, NameBody, Number, Make, Put, Choose, Close, Strike, Learn, Back, Show, Pass}
+use Rattle.search_theory.specs.Events.{Event, NameTerm, NameAtom, NameBody, Number, Make, Put, Choose, Close, Strike, Learn, Justify, Back, Show, Pass}
 use Rattle.search_theory.specs.Journals.{replay, Legal, IsFinished}
 use Rattle.search_theory.proofs.Events.{legal_safe}
 use Rattle.search_theory.proofs.LawProofs.{full_is_answer_set, shown_once}
@@ -44,6 +44,7 @@ none_passed core (Choose b up ∷ journal) legal ids i = none_passed core journa
 none_passed core (Close x ∷ journal) legal ids i = none_passed core journal legal.0 ids i
 none_passed core (Strike n ∷ journal) legal ids i = none_passed core journal legal.0 ids i
 none_passed core (Learn how ls ∷ journal) legal ids i = none_passed core journal legal.0 ids i
+none_passed core (Justify atoms ls ∷ journal) legal ids i = none_passed core journal legal.0 ids i
 none_passed core (Back l ∷ journal) legal ids i = none_passed core journal legal.0 ids i
 none_passed core (Show k ∷ journal) legal ids i = none_passed core journal legal.0 ids i
 none_passed core (Pass k ∷ journal) legal ids i = absurd legal.1.3.1

@@ -1,12 +1,11 @@
 -- The rules of a core without variables, tests and arithmetic: their terms, their atoms, and their instances.
-use Rattle.std.proofs.Common.{◌≡◌, ℕ, zero, suc, ◌<◌, ◌⊎◌, inl, inr, Bool, true, false, ◌&&◌, cond, nat_eq, List, [], ◌∷◌, ◌++◌, map, length, Option, Some, None, slice_get, refl, sym, ap, subst, ◌∙◌, arith}
+use Rattle.std.proofs.Common.{◌≡◌, ℕ, ◌⊎◌, inl, inr, Bool, true, false, ◌&&◌, cond, nat_eq, List, [], ◌∷◌, ◌++◌, map, length, Option, Some, None, slice_get, refl, sym, ap, subst, ◌∙◌, arith}
 use Rattle.std.specs.Prelude.{is_some}
 use Rattle.std.specs.List.{list_all}
-use Rattle.lists.specs.Lists.{◌∈◌, Each, concat}
+use Rattle.lists.specs.Lists.{◌∈◌, concat}
 use Rattle.lists.proofs.ListLemmas.{Each-at, ∈-append_left, ∈-append_right, ∈-append_cases}
 use Rattle.alpha_outside.specs.declared.pred.Pred.{Pred}
 use Rattle.alpha_outside.specs.declared.pred.Pred.TheVariants as pred
-use Rattle.alpha_outside.specs.declared.kinds.RuleKind.{RuleKind}
 use Rattle.core_rules.specs.declared.rules.CoreTerm.{CoreTerm, map-CoreTerm}
 use Rattle.core_rules.specs.declared.rules.CoreTerm.TheOpen.{CoreTerm-F}
 use Rattle.core_rules.specs.declared.rules.CoreTerm.TheOpen as layer
@@ -18,10 +17,9 @@ use Rattle.core_rules.specs.declared.rules.Core.{Core}
 use Rattle.core_rules.specs.declared.rules.Test.{Test}
 use Rattle.core_rules.specs.Variables.{variables, variables_step, outside_arithmetic, outside_step, has_arithmetic, test_terms, head_variables, atom_variables, test_variables, variables_of, rule_variables}
 use Rattle.core_rules.specs.CoreForm.{MayStand, IsFitting, IsRuleForm}
-use Rattle.search_theory.specs.Instances.{Kind, Plain, Choice, Constraint, Instance}
+use Rattle.search_theory.specs.Instances.{Kind, Instance}
 use Rattle.search_theory.proofs.Basics.{get_in, and_left, nat_eq-true}
 use Rattle.asp_meaning.specs.declared.value.Value.{Value}
-use Rattle.asp_meaning.specs.Terms.{all_of}
 use Rattle.asp_meaning.specs.Atoms.{Atom}
 use Rattle.core_meaning.specs.Terms.{Binding, eval, eval_all, outcome}
 use Rattle.core_meaning.specs.Atoms.{GroundAtom, User, ground_atom, with_arguments, atom_under}
@@ -266,18 +264,25 @@ module _ (core : Core) (ground : IsGroundCore core) (r : CoreRule) (among : r �
 
 -- ---- what an instance is made from
 
--- the rule of an instance, and the atoms that its positive ones become
+-- the rule of an instance, the atoms that its positive ones become, and what it does
 pub record RuleOf (core : Core) (m : Maker) (i : Instance GroundAtom) : Type 0 where
   pub rule : CoreRule
   pub there : slice_get core.rules m.0 ≡ Some rule
   pub no_values : m.1 ≡ []
   pub pos : atoms_under core.aggregates [] rule.pos ≡ Some i.pos
+  pub kind : kind_under core.aggregates [] rule.kind rule.head ≡ Some i.kind
 
 pos_of : (k : Option (Kind GroundAtom)) (ps ns : Option (List GroundAtom)) (i : Instance GroundAtom) → assembled k ps ns ≡ Some i → ps ≡ Some i.pos
 pos_of (Some k) (Some ps) (Some ns) i e = ap (λ (j : Instance GroundAtom). Some j.pos) (some_same (record { kind = k; pos = ps; neg = ns }) i e)
 pos_of None ps ns i e = cc
 pos_of (Some k) None ns i e = cc
 pos_of (Some k) (Some ps) None i e = cc
+
+kind_of : (k : Option (Kind GroundAtom)) (ps ns : Option (List GroundAtom)) (i : Instance GroundAtom) → assembled k ps ns ≡ Some i → k ≡ Some i.kind
+kind_of (Some k) (Some ps) (Some ns) i e = ap (λ (j : Instance GroundAtom). Some j.kind) (some_same (record { kind = k; pos = ps; neg = ns }) i e)
+kind_of None ps ns i e = cc
+kind_of (Some k) None ns i e = cc
+kind_of (Some k) (Some ps) None i e = cc
 
 none_there : (b : Binding) → length b ≡ 0 → b ≡ []
 none_there [] e = refl
@@ -298,6 +303,8 @@ rule_of core ground m i e = by_rule (slice_get core.rules m.0) refl e
           no_values = none;
           pos = subst (λ b. atoms_under core.aggregates b r.pos ≡ Some i.pos) none
               (pos_of (kind_under core.aggregates m.1 r.kind r.head) (atoms_under core.aggregates m.1 r.pos) (atoms_under core.aggregates m.1 r.neg) i e);
+          kind = subst (λ b. kind_under core.aggregates b r.kind r.head ≡ Some i.kind) none
+              (kind_of (kind_under core.aggregates m.1 r.kind r.head) (atoms_under core.aggregates m.1 r.pos) (atoms_under core.aggregates m.1 r.neg) i e);
         }
 
     by_rule : (found : Option CoreRule) → slice_get core.rules m.0 ≡ found → instance_in core.aggregates m.1 found ≡ Some i → RuleOf core m i

@@ -207,7 +207,7 @@ pub carried_learn : (v v' : Searching) (told told' : Option outside.Journal) (ho
 carried_learn v v' told told' how n may is number t held left rest g fits s = (
   Learn how (chosen v.stack) ∷ s.0,
   stands_on g v v' told told' held left (rest + 0) rest s.0 s.1 (Learn how (chosen v.stack)) (say.Learned n how (chosen v.stack) []) tt (may_learn g v told held left (rest + 0) s.0 s.1 how fits may)
-      (number ∙ ap (λ (z : Reached). length z.nogoods) s.1.is, refl, refl) (ap state_of is) t (let k = s.1.strikes_left in omega (arith, k)),
+      (number ∙ ap (λ (z : Reached). length z.nogoods) s.1.is, inl (refl, refl)) (ap state_of is) t (let k = s.1.strikes_left in omega (arith, k)),
 )
 
 -- the search went back, and noted it

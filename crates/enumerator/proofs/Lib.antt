@@ -7,6 +7,8 @@ pub mod Measuring
 pub mod GroundRules
 pub mod Names
 pub mod Readying
+pub mod Covering
+pub mod Justified
 pub mod Allowing
 pub mod NamesCome
 pub mod Looked

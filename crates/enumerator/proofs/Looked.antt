@@ -1,6 +1,6 @@
 -- How rules are looked at: a search stands on, and the positive atoms of more rules are known.
-use Rattle.std.proofs.Common.{◌≡◌, ℕ, ◌+◌, ◌<◌, ◌≤◌, false, List, [], ◌∷◌, ◌++◌, length, refl, sym, ◌∙◌, ap, subst, arith}
-use Rattle.std.specs.Prelude.{Option, Some, None, slice_get}
+use Rattle.std.proofs.Common.{◌≡◌, ℕ, ◌<◌, ◌≤◌, false, List, [], ◌∷◌, ◌++◌, length, refl, sym, ◌∙◌, ap, subst}
+use Rattle.std.specs.Prelude.{Option, Some, slice_get}
 use Rattle.alpha_outside.specs.Outside as outside
 use Rattle.core_rules.specs.declared.rules.CoreAtom.{CoreAtom}
 use Rattle.core_rules.specs.declared.rules.CoreRule.{CoreRule}

@@ -1,10 +1,10 @@
 -- How terms and atoms get their names: a search stands on, and the ids so far stand for what they stood for.
-use Rattle.std.proofs.Common.{◌≡◌, ◌↔◌, ℕ, zero, suc, ◌+◌, ◌<◌, ◌≤◌, ◌⊎◌, inl, inr, Bool, true, false, ◌&&◌, cond, nat_eq, List, [], ◌∷◌, ◌++◌, map, length, take, refl, sym, ◌∙◌, ap, subst, arith, append_assoc, append-nil, length-append}
+use Rattle.std.proofs.Common.{◌≡◌, ℕ, zero, suc, ◌+◌, ◌<◌, ◌≤◌, inl, inr, Bool, true, false, ◌&&◌, List, [], ◌∷◌, ◌++◌, map, length, take, refl, sym, ◌∙◌, ap, subst, arith, append_assoc, append-nil}
 use Rattle.std.specs.Prelude.{Option, Some, None, slice_get, option_map, is_some}
 use Rattle.std.proofs.lemmas.List.{take-append-le, take_all, length-take-le}
 use Rattle.std.proofs.lemmas.Option.{slice_get_within}
 use Rattle.term_pool.proofs.PlaceLemmas.{length-map}
-use Rattle.lists.specs.Lists.{◌∈◌, Each}
+use Rattle.lists.specs.Lists.{Each}
 use Rattle.alpha_outside.specs.declared.event.Event as event
 use Rattle.alpha_outside.specs.declared.event.Event.TheVariants as say
 use Rattle.alpha_outside.specs.Outside as outside
@@ -12,28 +12,25 @@ use Rattle.alpha_outside.specs.Outside.{with_event}
 use Rattle.alpha_outside.specs.declared.node.Node.{Node}
 use Rattle.alpha_outside.specs.declared.pred.Pred.{Pred}
 use Rattle.alpha_outside.specs.declared.pred.Pred.TheVariants as pred
-use Rattle.asp_meaning.specs.declared.value.Value.{Value}
 use Rattle.asp_meaning.specs.Atoms.{Atom}
-use Rattle.core_rules.specs.declared.rules.CoreTerm.{CoreTerm}
 use Rattle.core_rules.specs.declared.rules.CoreAggregate.{CoreAggregate}
 use Rattle.core_rules.specs.declared.rules.CoreAtom.{CoreAtom}
 use Rattle.core_rules.specs.declared.rules.CoreRule.{CoreRule}
 use Rattle.core_rules.specs.declared.rules.Core.{Core}
 use Rattle.core_rules.specs.CoreForm.{IsFitting, arity_of}
-use Rattle.core_meaning.specs.Terms.{eval, eval_all}
+use Rattle.core_meaning.specs.Terms.{eval}
 use Rattle.core_meaning.specs.Atoms.{GroundAtom, User, ground_atom, with_arguments, atom_under}
 use Rattle.core_meaning.specs.Instances.{atoms_under}
-use Rattle.search_theory.specs.States.{AtomNode, Named, BodyOf, Free, Over, IsName, Names}
-use Rattle.search_theory.specs.Events.{NameTerm, NameAtom, NameBody, happens, Allowed}
-use Rattle.search_theory.specs.Journals.{Says}
+use Rattle.search_theory.specs.States.{AtomNode, Named, Free, Over, IsName}
+use Rattle.search_theory.specs.Events.{NameTerm, NameAtom}
 use Rattle.search_theory.proofs.Basics.{get_in, get_left, get_last, nat_eq-same}
 use Rattle.term_pool.specs.Nodes.{value_at}
 use Rattle.atom_pool.specs.Meanings.{atom_of}
 use Rattle.search_rules.specs.Sameness.{atom_itself}
 use Rattle.search_rules.specs.Stage.{IsGroundCore}
-use Rattle.search_rules.specs.Rules.{Reached, search_rules, is_this, names_atom}
-use Rattle.ground_search.specs.Searching.{Searching, ids, state_of, terms_of, with_name}
-use Rattle.ground_search.specs.Resolving.{atoms_of, atom_in, IsAtomIn, IsResolved, AreIdsOf, IsUserOf, HasMoreNodes, IsNextTerm, IsNamedAs}
+use Rattle.search_rules.specs.Rules.{Reached, is_this, names_atom}
+use Rattle.ground_search.specs.Searching.{Searching, state_of, terms_of, with_name}
+use Rattle.ground_search.specs.Resolving.{atoms_of, IsAtomIn, IsResolved, IsUserOf, HasMoreNodes, IsNextTerm, IsNamedAs}
 use Rattle.ground_search.specs.declared.resolving.Part.{Part}
 use Rattle.ground_search.specs.declared.resolving.Part.TheVariants as part
 use Rattle.ground_search.specs.declared.resolving.Resolved.{Resolved}
@@ -139,6 +136,14 @@ term_noted v v' told told' e still next is t = record {
 
     count : v.noted ≡ length (terms_of v)
     count = let low = slice_get_within v.nodes v.noted next.node next.there in sym (length-take-le v.noted v.nodes (omega (arith, low)))
+
+-- where a number of terms is noted, nothing else has changed
+pub noted_same : (v v' : Searching) (noted : ℕ) → (let w : Searching = record v { noted = noted } in v' ≡ w) → let w : Searching = record v { noted = v'.noted } in v' ≡ w
+noted_same v v' noted is = is ∙ (λ i. let w : Searching = record v { noted = (sym (ap (λ (z : Searching). z.noted) is)) i } in w)
+
+-- nor where more are noted after that
+pub noted_on : (v v1 v' : Searching) → (let w : Searching = record v { noted = v1.noted } in v1 ≡ w) → (let w : Searching = record v1 { noted = v'.noted } in v' ≡ w) → let w : Searching = record v { noted = v'.noted } in v' ≡ w
+noted_on v v1 v' a b = b ∙ ap (λ (z : Searching). let w : Searching = record z { noted = v'.noted } in w) a
 
 -- ---- atoms
 

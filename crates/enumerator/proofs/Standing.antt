@@ -5,7 +5,7 @@ use Rattle.alpha_outside.specs.declared.event.Event as event
 use Rattle.alpha_outside.specs.Outside as outside
 use Rattle.alpha_outside.specs.Outside.{with_event, Rose}
 use Rattle.search_theory.specs.States.{AtomNode, Named, BodyOf, State, Names}
-use Rattle.search_theory.specs.Events.{NameTerm, NameAtom, NameBody, Number, Make, Put, Choose, Close, Strike, Learn, Back, Show, Pass, happens, Allowed}
+use Rattle.search_theory.specs.Events.{NameTerm, NameAtom, NameBody, Number, Make, Put, Choose, Close, Strike, Learn, Justify, Back, Show, Pass, happens, Allowed}
 use Rattle.search_theory.specs.Journals.{Legal, Says, replay}
 use Rattle.search_theory.proofs.Basics.{get_left}
 use Rattle.core_rules.specs.declared.rules.Core.{Core}
@@ -51,6 +51,7 @@ names_kept core s (Choose b up) x n there = there
 names_kept core s (Close y) x n there = there
 names_kept core s (Strike m) x n there = there
 names_kept core s (Learn how ls) x n there = there
+names_kept core s (Justify atoms ls) x n there = there
 names_kept core s (Back l) x n there = there
 names_kept core s (Show ids) x n there = there
 names_kept core s (Pass ids) x n there = there
@@ -69,6 +70,7 @@ shown_same core s (Choose b up) w = refl
 shown_same core s (Close x) w = refl
 shown_same core s (Strike n) w = refl
 shown_same core s (Learn how ls) w = refl
+shown_same core s (Justify atoms ls) w = refl
 shown_same core s (Back l) w = refl
 shown_same core s (Show ids) w = absurd w
 shown_same core s (Pass ids) w = refl

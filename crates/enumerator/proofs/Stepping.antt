@@ -1,6 +1,6 @@
 -- A search runs on by the steps that it finds.
-use Rattle.std.proofs.Common.{◌≡◌, ℕ, ◌+◌, ◌<◌, ◌≤◌, inl, inr, Bool, true, false, List, [], ◌∷◌, length, refl, sym, ◌∙◌, ap, subst, arith}
-use Rattle.std.specs.Prelude.{Option, Some, None, slice_get, option_map, Result, Ok, Err, OnOk, IfOk, IfErr}
+use Rattle.std.proofs.Common.{◌≡◌, ℕ, ◌<◌, ◌≤◌, inl, inr, true, false, List, [], length, refl, sym, ◌∙◌, ap, subst, arith}
+use Rattle.std.specs.Prelude.{Option, Some, None, slice_get, option_map, Result, Ok, Err, OnOk, IfErr}
 use Rattle.std.proofs.lemmas.Option.{slice_get_within}
 use Rattle.lists.specs.Lists.{◌∈◌}
 use Rattle.alpha_outside.specs.declared.event.Event.TheVariants as say
@@ -17,10 +17,9 @@ use Rattle.core_meaning.specs.Atoms.{atom_under}
 use Rattle.search_theory.specs.declared.entry.Why.TheVariants.{Given, Chosen, Closed}
 use Rattle.search_theory.specs.Events.{Put, Choose, Close, decision}
 use Rattle.search_theory.specs.Journals.{Legal, replay}
-use Rattle.search_theory.specs.States.{IsName, Names}
+use Rattle.search_theory.specs.States.{IsName}
 use Rattle.search_theory.proofs.Basics.{get_in}
 use Rattle.search_theory.proofs.Events.{legal_safe}
-use Rattle.term_eval.specs.Evaluation.{met, Undefined}
 use Rattle.term_eval.specs.Evals.{HasTooLarge}
 use Rattle.term_eval.proofs.Meeting.{met_without}
 use Rattle.search_rules.specs.Rules.{Reached, search_rules}
@@ -30,14 +29,13 @@ use Rattle.ground_search.specs.Searching.{Searching, ids, assigned, state_of}
 use Rattle.ground_search.specs.Moves.{IsDue}
 use Rattle.ground_search.specs.Resolving.{atoms_of}
 use Rattle.enumerator.specs.Journals.{Step}
-use Rattle.enumerator.specs.Standing.{Carries, IsKept, IsReady, IsTraceFault, IsTraceCause, unlisted}
+use Rattle.enumerator.specs.Standing.{IsKept, IsReady, IsTraceFault, IsTraceCause, unlisted}
 use Rattle.enumerator.specs.declared.answers.SearchFault.{SearchFault}
 use Rattle.enumerator.specs.declared.naming.NameList.TheVariants as list
 use Rattle.enumerator.specs.declared.naming.HeadName.TheVariants as head
 use Rattle.enumerator.specs.Naming.{OnlyNames, AreNamesOf, IsHeadOf}
 use Rattle.enumerator.specs.Runs.{Runs, Stepped, IsAlmostDue}
-use Rattle.enumerator.specs.Measures.{work_left}
-use Rattle.enumerator.specs.Moves.{MoveIs, IsHalt}
+use Rattle.enumerator.specs.Moves.{MoveIs}
 use Rattle.enumerator.specs.declared.moves.Move.{Move}
 use Rattle.enumerator.specs.declared.moves.Move.TheVariants as move
 use Rattle.enumerator.proofs.Standing.{event_carries, cause_on, note_fault}
@@ -112,6 +110,10 @@ runs_on v v1 v' told told1 told' a b = record {
   stays = λ ng i. b.stays ng (a.stays ng i);
   carries = λ held left rest g fits s. b.carries held left rest g (fits_on g v v1 a.core fits) (a.carries held left rest g fits s);
 }
+
+-- so does one after a step that brought it to no halt
+pub runs_further : (v v1 v' : Searching) (told told1 told' : Option outside.Journal) (o : Option Move) → Runs v v1 told told1 → o ≡ None → Stepped v1 v' told1 told' o → Runs v v' told told'
+runs_further v v1 v' told told1 told' o runs none s = runs_on v v1 v' told told1 told' runs (subst (λ z. Stepped v1 v' told1 told' z) none s).0
 
 -- a fault later on
 pub fault_on : (v v1 : Searching) (told told1 told' : Option outside.Journal) (before mid now : ℕ) (fault : SearchFault) → Runs v v1 told told1 → before ≤ mid → IsTraceFault v1 told1 told' mid now fault → IsTraceFault v told told' before now fault

@@ -1,5 +1,5 @@
 -- The tests' rules are ground rules in core form.
-use Rattle.std.proofs.Common.{◌≡◌, ℕ, ◌<◌, false, arith, List, [], ◌∷◌, ◌++◌, map, Option, Some, None, refl, sym, ap, subst, ◌∙◌}
+use Rattle.std.proofs.Common.{◌≡◌, ℕ, false, arith, List, [], ◌∷◌, ◌++◌, map, Option, Some, None, refl, sym, ap, subst, ◌∙◌}
 use Rattle.std.specs.Prelude.{◌↔◌, slice_get}
 use Rattle.lists.specs.Lists.{◌∈◌, Each, concat}
 use Rattle.lists.proofs.ListLemmas.{Each-map, Each-append}
@@ -11,9 +11,8 @@ use Rattle.core_rules.specs.declared.rules.CoreAtom.{CoreAtom}
 use Rattle.core_rules.specs.declared.rules.CoreAggregate.{CoreAggregate}
 use Rattle.core_rules.specs.declared.rules.Test.{Test}
 use Rattle.core_rules.specs.declared.rules.CoreRule.{CoreRule}
-use Rattle.core_rules.specs.declared.rules.Core.{Core}
 use Rattle.core_rules.specs.Variables.{has_arithmetic, atom_variables, head_variables, rule_variables}
-use Rattle.core_rules.specs.CoreForm.{MayStand, IsFitting, HasNoArithmetic, IsHead, IsRuleForm, IsBelowTotal, IsCoreForm}
+use Rattle.core_rules.specs.CoreForm.{MayStand, IsFitting, HasNoArithmetic, IsHead, IsRuleForm, IsBelowTotal}
 use Rattle.core_rules.specs.Names.{IsNamedAtom, IsNamedHead, IsNamedRule}
 use Rattle.search_rules.specs.Stage.{head_terms, rule_terms, IsGroundRule, IsGroundCore}
 

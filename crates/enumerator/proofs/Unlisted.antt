@@ -1,12 +1,15 @@
 -- A state without the sets found is as good as the state for all that a search does but showing sets.
-use Rattle.std.proofs.Common.{◌≡◌, ℕ, List, [], refl, inl, inr}
+use Rattle.std.proofs.Common.{◌≡◌, ℕ, List, [], ◌∷◌, refl, inl, inr}
 use Rattle.alpha_outside.specs.declared.event.Event as event
 use Rattle.alpha_outside.specs.declared.event.Event.TheVariants as say
-use Rattle.search_theory.specs.Journals.{Says}
+use Rattle.alpha_outside.specs.declared.pattern.Pattern.{Pattern}
+use Rattle.search_theory.specs.Values.{Lit}
+use Rattle.search_theory.specs.Covers.{IsBlocked, needs_one, lacks, is_denied, has_false_body, MayJustify}
+use Rattle.search_theory.specs.Journals.{Says, ArePatternsOf}
 use Rattle.search_theory.specs.Tables.{Made}
 use Rattle.search_theory.specs.States.{IsActive, IsSettled, IsStuck, IsFull, AreTrueUserAtoms}
-use Rattle.search_theory.specs.Events.{NameTerm, NameAtom, NameBody, Number, Make, Put, Choose, Close, Strike, Learn, Back, Show, Pass, Analysed, Justified, Decisions, Enumerated, happens, Allowed, NoneStuck}
-use Rattle.search_theory.specs.Instances.{Rules}
+use Rattle.search_theory.specs.Events.{NameTerm, NameAtom, NameBody, Number, Make, Put, Choose, Close, Strike, Learn, Justify, Back, Show, Pass, Analysed, Justified, Decisions, Enumerated, happens, Allowed, NoneStuck}
+use Rattle.search_theory.specs.Instances.{Instance, Rules}
 use Rattle.core_meaning.specs.Atoms.{GroundAtom}
 use Rattle.search_rules.specs.Tests.{Maker}
 use Rattle.core_rules.specs.declared.rules.Core.{Core}
@@ -28,6 +31,7 @@ ShowsNone (Choose b up) = Unit {0}
 ShowsNone (Close x) = Unit {0}
 ShowsNone (Strike n) = Unit {0}
 ShowsNone (Learn how ls) = Unit {0}
+ShowsNone (Justify atoms ls) = Unit {0}
 ShowsNone (Back l) = Unit {0}
 ShowsNone (Pass ids) = Unit {0}
 
@@ -71,6 +75,39 @@ module _ (rules : Rules Numbers GroundAtom Maker) (s : Reached) where
   none_stuck_on : NoneStuck rules (unlisted s) → NoneStuck rules s
   none_stuck_on h x t = h x (stuck_off x t)
 
+  -- an instance that is blocked is so
+  blocked_on : (atoms : List GroundAtom) (lits : List Lit) (m : Maker) (i : Instance GroundAtom) → IsBlocked rules (unlisted s) atoms lits m i → IsBlocked rules s atoms lits m i
+  blocked_on atoms lits m i (needs_one p j among) = needs_one p j among
+  blocked_on atoms lits m i (lacks p x j named k) = lacks p x j named k
+  blocked_on atoms lits m i (is_denied n x j named k) = is_denied n x j named k
+  blocked_on atoms lits m i (has_false_body k b made same has j) = has_false_body k b made same has j
+
+  -- a nogood that may be justified may be
+  justify_on : (atoms : List GroundAtom) (lits : List Lit) → MayJustify rules (unlisted s) atoms lits → MayJustify rules s atoms lits
+  justify_on atoms lits may = record {
+    free = may.free;
+    none_struck = may.none_struck;
+    none_unit = may.none_unit;
+    none_closed = may.none_closed;
+    id = may.id;
+    first = may.first;
+    others = may.others;
+    atoms_are = may.atoms_are;
+    named = may.named;
+    not_yet = may.not_yet;
+    reasons = may.reasons;
+    lits_are = may.lits_are;
+    hold = may.hold;
+    covers = λ n c extends m i at a among head. blocked_on atoms may.reasons m i (may.covers n c extends m i at a among head);
+  }
+
+  -- patterns are those of the same atoms
+  patterns_on : (ps : List Pattern) (atoms : List GroundAtom) → ArePatternsOf rules (unlisted s) ps atoms → ArePatternsOf rules s ps atoms
+  patterns_on [] [] are = tt
+  patterns_on [] (a ∷ atoms) are = absurd are
+  patterns_on (p ∷ ps) [] are = absurd are
+  patterns_on (p ∷ ps) (a ∷ atoms) are = (are.0, patterns_on ps atoms are.1)
+
   -- a full state is full
   pub full_on : IsFull rules (unlisted s) → IsFull rules s
   full_on t = record { all_valued = t.all_valued; none_must_be = t.none_must_be; none_struck = t.none_struck; none_due = t.none_due; none_waiting = t.none_waiting }
@@ -94,6 +131,7 @@ module _ (rules : Rules Numbers GroundAtom Maker) (s : Reached) where
   allowed_on (Learn Enumerated ls) w h = h
   allowed_on (Learn Analysed ls) w h = absurd h.0
   allowed_on (Learn Justified ls) w h = absurd h.0
+  allowed_on (Justify atoms ls) w h = (justify_on atoms ls h.0, h.1)
   allowed_on (Back l) w h = h
   allowed_on (Show ids) w h = absurd w
   allowed_on (Pass ids) w h = (h.0, full_on h.1, atoms_on ids h.2, h.3)
@@ -110,6 +148,7 @@ module _ (rules : Rules Numbers GroundAtom Maker) (s : Reached) where
   unlisted_next (Close x) = refl
   unlisted_next (Strike n) = refl
   unlisted_next (Learn how ls) = refl
+  unlisted_next (Justify atoms ls) = refl
   unlisted_next (Back l) = refl
   unlisted_next (Show ids) = refl
   unlisted_next (Pass ids) = refl
@@ -126,7 +165,7 @@ module _ (rules : Rules Numbers GroundAtom Maker) (s : Reached) where
   says_on (say.Closed atom) e h = h
   says_on (say.Struck nogood) e h = h
   says_on (say.Kept nogood) e h = h
-  says_on (say.Learned nogood how lits cover) e h = h
+  says_on (say.Learned nogood how lits cover) e h = (h.0, elim h.1 [ inl k ↦ inl k | inr k ↦ inr (k.0, (k.1.0, patterns_on cover k.1.0 k.1.1, k.1.2)) ])
   says_on (say.Back level) e h = h
   says_on (say.Wide atom count) e h = h
   says_on (say.Shown atoms) e h = h

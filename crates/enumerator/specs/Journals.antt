@@ -8,7 +8,7 @@ use Rattle.core_rules.specs.declared.rules.Core.{Core}
 use Rattle.core_meaning.specs.Atoms.{GroundAtom, User}
 use Rattle.search_theory.specs.Nogoods.{Nogood, IsStruck}
 use Rattle.search_theory.specs.States.{Names}
-use Rattle.search_theory.specs.Events.{Event, NameTerm, NameAtom, NameBody, Number, Make, Put, Choose, Close, Strike, Learn, Back, Show, Pass}
+use Rattle.search_theory.specs.Events.{Event, NameTerm, NameAtom, NameBody, Number, Make, Put, Choose, Close, Strike, Learn, Justify, Back, Show, Pass}
 use Rattle.search_theory.specs.Journals.{SaysAll}
 use Rattle.search_rules.specs.Tests.{Maker}
 use Rattle.search_rules.specs.Rules.{Reached, search_rules}
@@ -41,6 +41,7 @@ strikes (Put a v n ∷ earlier) = strikes earlier
 strikes (Choose b up ∷ earlier) = strikes earlier
 strikes (Close x ∷ earlier) = strikes earlier
 strikes (Learn how ls ∷ earlier) = strikes earlier
+strikes (Justify atoms ls ∷ earlier) = strikes earlier
 strikes (Back level ∷ earlier) = strikes earlier
 strikes (Show ids ∷ earlier) = strikes earlier
 strikes (Pass ids ∷ earlier) = strikes earlier

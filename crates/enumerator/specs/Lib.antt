@@ -3,6 +3,7 @@ pub mod Search
 pub mod Standing
 pub mod Moves
 pub mod Runs
+pub mod Justifying
 pub mod Naming
 pub mod Looking
 pub mod Settling

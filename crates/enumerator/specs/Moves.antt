@@ -9,9 +9,10 @@ use Rattle.search_theory.specs.States.{IsActive}
 use Rattle.search_rules.specs.Tests.{Maker}
 use Rattle.search_rules.specs.Faults.{IsTooLarge}
 use Rattle.ground_search.specs.Searching.{Searching, ids, state_of}
+use Rattle.ground_search.specs.Underivable.{IsUnderivable}
 use Rattle.ground_search.specs.Moves.{IsDue, NothingIsDue, NamesAreSmall, NoChoice, IsNamed}
 use Rattle.enumerator.specs.declared.moves.Move.{Move}
-use Rattle.enumerator.specs.declared.moves.Move.TheVariants.{Strike, Put, Make, Choose, Close, TooLarge, Stuck, Full}
+use Rattle.enumerator.specs.declared.moves.Move.TheVariants.{Strike, Put, Make, Justify, Choose, Close, TooLarge, Stuck, Full}
 
 -- some named atom is must-be-true
 abbrev pub SomeMustBe : Searching → Type 0
@@ -49,6 +50,7 @@ abbrev pub MoveIs : Searching → Move → Type 0
 MoveIs v (Strike n) = (ng : Nogood) × (slice_get v.nogoods n ≡ Some ng) × IsStruck v.stack ng
 MoveIs v (Put n a value) = (a < ids v) × ((ng : Nogood) × (slice_get v.nogoods n ≡ Some ng) × Gives v.stack ng a value)
 MoveIs v (Make m) = IsQuiet v × NoneSince v × IsDue v m
+MoveIs v (Justify u) = IsQuiet v × (¬ HasClosed v.stack) × IsUnderivable v u.atom u.falses
 MoveIs v (Choose b) = IsQuiet v × NoneSince v × NoneIsDue v × (b < ids v) × ((k : Made Maker) × (k ∈ v.made) × IsActive (state_of v) k b)
 MoveIs v (Close x) = IsQuiet v × IsIdle v × NoneMustBe v × IsNamed v x × (value_of v.stack x ≡ None)
 MoveIs v (TooLarge line size) = IsTooLarge v.core (state_of v) line size
@@ -60,6 +62,7 @@ abbrev pub IsHalt : Move → Type 0
 IsHalt (Strike n) = Unit {0}
 IsHalt (Put n a value) = ⊥
 IsHalt (Make m) = ⊥
+IsHalt (Justify u) = ⊥
 IsHalt (Choose b) = ⊥
 IsHalt (Close x) = ⊥
 IsHalt (TooLarge line size) = Unit {0}

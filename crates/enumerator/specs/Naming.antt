@@ -1,5 +1,5 @@
 -- What naming the atoms of a rule leaves: the search stands where it stood, but for terms and atoms that are named.
-use Rattle.std.specs.Prelude.{◌≡◌, ℕ, Bool, List, [], ◌++◌, Option, Some, None, slice_get}
+use Rattle.std.specs.Prelude.{◌≡◌, ℕ, List, [], ◌++◌, Option, Some, None}
 use Rattle.lists.specs.Lists.{◌∈◌}
 use Rattle.alpha_outside.specs.Outside as outside
 use Rattle.core_rules.specs.declared.rules.CoreAtom.{CoreAtom}
@@ -7,9 +7,8 @@ use Rattle.core_rules.specs.declared.rules.CoreRule.{CoreRule}
 use Rattle.core_meaning.specs.Atoms.{GroundAtom, atom_under}
 use Rattle.core_meaning.specs.Instances.{atoms_under}
 use Rattle.search_theory.specs.States.{AtomNode, IsName, Names}
-use Rattle.term_eval.specs.Evals.{Grows}
 use Rattle.ground_search.specs.Searching.{Searching, state_of}
-use Rattle.ground_search.specs.Resolving.{atoms_of, IsOneTooLarge}
+use Rattle.ground_search.specs.Resolving.{IsOneTooLarge}
 use Rattle.enumerator.specs.Standing.{Carries, IsStill}
 use Rattle.enumerator.specs.declared.naming.Name.{Name}
 use Rattle.enumerator.specs.declared.naming.Name.TheVariants as name

@@ -1,7 +1,7 @@
 -- Where a search stands: its state is the one that a legal journal leads to, which was told, and the lines of the sets shown were written.
-use Rattle.std.specs.Prelude.{◌≡◌, ◌⊎◌, ℕ, ◌+◌, ◌<◌, ◌≤◌, true, List, [], ◌∷◌, ◌++◌, map, length, reverse, take, Option, Some, None, slice_get}
+use Rattle.std.specs.Prelude.{◌≡◌, ◌⊎◌, ℕ, ◌+◌, ◌<◌, ◌≤◌, List, [], ◌++◌, length, reverse, take, Option, Some, None, slice_get}
 use Rattle.std.specs.Io.KnownBytes.{Appends}
-use Rattle.lists.specs.Lists.{◌∈◌, Each, concat}
+use Rattle.lists.specs.Lists.{◌∈◌, concat}
 use Rattle.alpha_outside.specs.Outside as outside
 use Rattle.alpha_outside.specs.Outside.{Rose}
 use Rattle.search_theory.specs.declared.entry.Entry.{Entry}

@@ -6,6 +6,7 @@ ghost use Rattle.enumerator.specs.Moves.{MoveIs, IsHalt};
 ghost use Rattle.enumerator.specs.Runs.{Runs, Stepped};
 
 use crate::answers::SearchFault;
+use crate::justifying::justify;
 use crate::making::make;
 use crate::moves::{Move, is_halt, next_move};
 use crate::steps::{choose, close, put};
@@ -30,6 +31,7 @@ fn step<T: Trace>(
     match found {
         Move::Put(by, atom, value) => put(search, trace, *by, *atom, *value),
         Move::Make(rule) => make(search, alloc, trace, *rule),
+        Move::Justify(underivable) => justify(search, alloc, trace, underivable),
         Move::Choose(body) => choose(search, trace, *body),
         Move::Close(atom) => close(search, trace, *atom),
         Move::Strike(_) => unreachable!(),
@@ -53,7 +55,9 @@ pub fn advance<T: Trace>(
     ensures err { IfErr result (IsTraceFault search.old (T.journal trace.old) (T.journal trace.new) (T.faults trace.old) (T.faults trace.new)) }
 {
     'stepping: loop {
-        let found = next_move(search);
+        let Ok(found) = next_move(search) else {
+            return Err(SearchFault::OutOfMemory);
+        };
         if is_halt(&found) {
             return Ok(found);
         }

@@ -2,11 +2,13 @@
 //!
 //! The search names the positive atoms of all rules. Then it chooses bodies and propagates values until a nogood is struck, an atom stays
 //! must-be-true, a set is found, or a term is too large; an instance is made when its positive atoms are true or must-be-true, and its other
-//! atoms are named then. After a conflict, a stuck atom or a set it learns the literals chosen as a nogood, and goes on.
+//! atoms are named then. An atom that no rule gives is false, by a nogood that says so. After a conflict, a stuck atom or a set it learns the
+//! literals chosen as a nogood, and goes on.
 #![tactic(auto)]
 
 mod advance;
 mod answers;
+mod justifying;
 mod looking;
 mod making;
 mod moves;

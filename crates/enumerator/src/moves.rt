@@ -1,16 +1,16 @@
 //! What a search does next. A nogood that is struck or unit comes first; then an atom that stays must-be-true above a closed one;
-//! then an instance that is due; then a body that is active. Where there is none of these, the state is settled: a must-be-true atom
-//! stays so, or an unassigned atom is closed, or a set is found.
+//! then an instance that is due; then an atom that no rule gives; then a body that is active. Where there is none of these, the state is
+//! settled: a must-be-true atom stays so, or an unassigned atom is closed, or a set is found.
 
-ghost use Rattle.std.specs.Prelude.{◌≡◌, ◌⊎◌, true, false};
+ghost use Rattle.std.specs.Prelude.{◌≡◌, ◌⊎◌, true, false, IfOk};
 ghost use Rattle.search_theory.specs.Values.{HasClosed};
 ghost use Rattle.enumerator.specs.Moves.{MoveIs, IsHalt, IsQuiet, IsIdle, NoneSince, SomeMustBe, NoneMustBe};
 
-use alpha_outside::{AtomId, NogoodId, Value};
-use ground_search::{Finding, Search};
+use alpha_outside::{AtomId, NogoodId, OutOfMemory, Value};
+use ground_search::{Finding, Search, Underivable};
 
 /// What comes next.
-#[derive(Clone, Copy, Debug, PartialEq, Eq)]
+#[derive(Debug, Drop)]
 pub enum Move {
     /// The nogood is struck.
     Strike(NogoodId),
@@ -18,6 +18,8 @@ pub enum Move {
     Put(NogoodId, AtomId, Value),
     /// The rule's instance is due.
     Make(u32),
+    /// No rule gives the atom.
+    Justify(Underivable),
     /// The body is active.
     Choose(AtomId),
     /// The atom is unassigned where the state is settled.
@@ -31,29 +33,34 @@ pub enum Move {
 }
 
 /// What comes next where nothing in particular has to.
-pub fn next_move(search: &Search) -> Move
-    ensures { MoveIs search.now result }
+pub fn next_move(search: &Search) -> Result<Move, OutOfMemory>
+    ensures { IfOk result (MoveIs search.now) }
 {
     match search.find() {
-        Finding::Struck(nogood) => Move::Strike(nogood),
-        Finding::Unit(nogood, atom, value) => Move::Put(nogood, atom, value),
+        Finding::Struck(nogood) => Ok(Move::Strike(nogood)),
+        Finding::Unit(nogood, atom, value) => Ok(Move::Put(nogood, atom, value)),
         Finding::Quiet => quiet_move(search),
     }
 }
 
 // What comes next where nothing is struck or unit.
-fn quiet_move(search: &Search) -> Move
+fn quiet_move(search: &Search) -> Result<Move, OutOfMemory>
     requires { IsQuiet search.now }
-    ensures { MoveIs search.now result }
+    ensures { IfOk result (MoveIs search.now) }
 {
     if is_stuck_since(search) {
-        return Move::Stuck;
+        return Ok(Move::Stuck);
     }
     if let Some(rule) = search.due() {
-        return Move::Make(rule);
+        return Ok(Move::Make(rule));
+    }
+    if let Some(found) = search.underivable()? {
+        if !search.has_closed() {
+            return Ok(Move::Justify(found));
+        }
     }
     if let Some(body) = search.active() {
-        return Move::Choose(body);
+        return Ok(Move::Choose(body));
     }
     idle_move(search)
 }
@@ -67,18 +74,33 @@ fn is_stuck_since(search: &Search) -> bool
 }
 
 // What comes next where the state is settled.
-fn idle_move(search: &Search) -> Move
+fn idle_move(search: &Search) -> Result<Move, OutOfMemory>
     requires quiet { IsQuiet search.now }
     requires idle { IsIdle search.now }
-    ensures { MoveIs search.now result }
+    ensures { IfOk result (MoveIs search.now) }
 {
     if search.must_be().is_some() {
-        return Move::Stuck;
+        return stuck_move(search);
     }
     if let Some(atom) = search.unassigned() {
-        return Move::Close(atom);
+        return Ok(Move::Close(atom));
     }
-    Move::Full
+    Ok(Move::Full)
+}
+
+// What comes next where an atom is stuck: that no rule gives it says more than that it is stuck for the literals chosen.
+fn stuck_move(search: &Search) -> Result<Move, OutOfMemory>
+    requires quiet { IsQuiet search.now }
+    requires idle { IsIdle search.now }
+    requires some { SomeMustBe search.now }
+    ensures { IfOk result (MoveIs search.now) }
+{
+    if let Some(found) = search.must_be_underivable()? {
+        if !search.has_closed() {
+            return Ok(Move::Justify(found));
+        }
+    }
+    Ok(Move::Stuck)
 }
 
 /// Whether the literals chosen are learned next.

@@ -50,6 +50,7 @@ fn note_next<T: Trace>(search: &mut Search, trace: &mut T) -> Result<bool, Searc
     ensures later { T.faults trace.old ≤ T.faults trace.new }
     ensures names { OnOk result (OnlyNames search.old search.new (T.journal trace.old) (T.journal trace.new)) }
     ensures nodes { OnOk result (search.new.nodes ≡ search.old.nodes) }
+    ensures same { OnOk result (search.new ≡ record search.old { noted = search.new.noted }) }
     ensures one { IfOk result (λ more. more ≡ true → (search.old.noted < length search.old.nodes) × (search.new.noted ≡ search.old.noted + 1)) }
     ensures none { IfOk result (λ more. more ≡ false → search.new.noted ≡ length search.new.nodes) }
     ensures err { IfErr result (IsTraceFault search.old (T.journal trace.old) (T.journal trace.new) (T.faults trace.old) (T.faults trace.new)) }
@@ -65,12 +66,13 @@ fn note_next<T: Trace>(search: &mut Search, trace: &mut T) -> Result<bool, Searc
     Ok(true)
 }
 
-// Notes the terms that aren't noted yet.
-fn note_terms<T: Trace>(search: &mut Search, trace: &mut T) -> Result<(), SearchFault>
+/// Notes the terms that aren't noted yet.
+pub fn note_terms<T: Trace>(search: &mut Search, trace: &mut T) -> Result<(), SearchFault>
     requires { IsStill search.old }
     ensures later { T.faults trace.old ≤ T.faults trace.new }
     ensures names { OnOk result (OnlyNames search.old search.new (T.journal trace.old) (T.journal trace.new)) }
     ensures nodes { OnOk result (search.new.nodes ≡ search.old.nodes) }
+    ensures same { OnOk result (search.new ≡ record search.old { noted = search.new.noted }) }
     ensures all { OnOk result (search.new.noted ≡ length search.new.nodes) }
     ensures err { IfErr result (IsTraceFault search.old (T.journal trace.old) (T.journal trace.new) (T.faults trace.old) (T.faults trace.new)) }
 {

@@ -8,7 +8,7 @@ ghost use Rattle.core_rules.specs.Variables.{has_arithmetic, variables, atom_var
 ghost use Rattle.search_rules.specs.Stage.{IsGroundRule, IsGroundCore, head_terms};
 
 use crate::{End, SearchFault, Settings, search};
-use alpha_outside::{Event, List, MemSink, MemTrace, Name, OutOfMemory, Pred, RuleKind};
+use alpha_outside::{Event, How, List, MemSink, MemTrace, Name, OutOfMemory, Pred, RuleKind};
 use core_rules::{Core, CoreAtom, CoreRule, CoreTerm};
 use std::alloc::Global;
 use std::test::Fail;
@@ -222,6 +222,17 @@ fn shown(events: &[Event]) -> usize {
         .count()
 }
 
+// How many nogoods the trace was told of that are justified by one atom.
+fn justified(events: &[Event]) -> usize {
+    events
+        .iter()
+        .filter(|event| match event {
+            Event::Learned { how, cover, .. } => *how == How::Justified && cover.len() == 1,
+            _ => false,
+        })
+        .count()
+}
+
 // How the search ended, how many sets it says were written, the bytes that were, and how many sets the trace was told of.
 fn searched(alloc: Global, case: &Case<'_>) -> Result<String, Fail>
     requires { 0 < case.now.limit }
@@ -262,6 +273,16 @@ const HAS_TERMS: [Line<'static>; 2] = [(Fact(P), &[], &[]), (Fact(Q), &[P], &[R]
 // `{ -r(g) }. :- not -r(g).`
 const CHOSEN_AND_WANTED: [Line<'static>; 2] = [(Chosen(R), &[], &[]), (Nothing, &[], &[R])];
 
+// `b :- not a.`
+const NOTHING_GIVES_A: [Line<'static>; 1] = [(Fact(B), &[], &[A])];
+
+// `b :- not a. a :- p(f(1)). p(f(1)) :- p(f(1)), b.`
+const NOTHING_BEGINS: [Line<'static>; 3] = [
+    (Fact(B), &[], &[A]),
+    (Fact(A), &[P], &[]),
+    (Fact(P), &[P, B], &[]),
+];
+
 // `a. :- a.`
 const BROKEN: [Line<'static>; 2] = [(Fact(A), &[], &[]), (Nothing, &[A], &[])];
 
@@ -270,6 +291,13 @@ const ONE_IS_OUT: [Line<'static>; 3] = [
     (Fact(A), &[], &[B]),
     (Fact(B), &[], &[A]),
     (Nothing, &[B], &[]),
+];
+
+// `a :- not b. b :- not a. :- b, not a.`
+const ONE_HAS_TO_BE: [Line<'static>; 3] = [
+    (Fact(A), &[], &[B]),
+    (Fact(B), &[], &[A]),
+    (Nothing, &[B], &[A]),
 ];
 
 #[test]
@@ -361,9 +389,14 @@ fn no_conflict_may_come_where_none_is_allowed(rt: HostRuntime) -> Result<(), Fai
     let rows = [
         (DENIES_ITSELF.as_slice(), "conflicts 0||0", "conflicts 0||0"),
         (
+            ONE_HAS_TO_BE.as_slice(),
+            "conflicts 1|{a}\n|1",
+            "conflicts 0||0",
+        ),
+        (
             EACH_BLOCKS_THE_OTHER.as_slice(),
-            "conflicts 2|{a}\n{b}\n|2",
-            "conflicts 2|{b}\n{a}\n|2",
+            "finished 2|{a}\n{b}\n|2",
+            "finished 2|{b}\n{a}\n|2",
         ),
     ];
     for (lines, want, or) in rows {
@@ -378,5 +411,33 @@ fn no_conflict_may_come_where_none_is_allowed(rt: HostRuntime) -> Result<(), Fai
         let got = searched(rt.alloc(), &case)?;
         assert!(rt; got.as_str() == want || got.as_str() == or);
     }
+    Ok(())
+}
+
+// How many nogoods are justified by one atom in a search that may meet so many conflicts, and how that ends.
+fn justified_in(
+    alloc: Global,
+    lines: &[Line<'_>],
+    conflicts: u64,
+) -> Result<(&'static str, usize), Fail> {
+    let settings = Settings {
+        limit: 5,
+        conflicts,
+        instances: 1_000,
+    };
+    let core = core(alloc, lines)?;
+    let mut out = MemSink::new(alloc, List::new(alloc), 0);
+    let mut trace = MemTrace::new(alloc, List::new(alloc));
+    let answer = search(alloc, core, settings, &mut out, &mut trace);
+    Ok((word(&answer), justified(trace.events())))
+}
+
+#[test]
+fn what_no_rule_gives_needs_no_choice(rt: HostRuntime) -> Result<(), Fail> {
+    let alloc = rt.alloc();
+    assert!(rt; justified_in(alloc, &NOTHING_GIVES_A, 0)? == ("finished", 1));
+    assert!(rt; justified_in(alloc, &NOTHING_BEGINS, 0)? == ("finished", 2));
+    assert!(rt; justified_in(alloc, &WANTS_SUPPORT, 1)? == ("finished", 1));
+    assert!(rt; justified_in(alloc, &WANTS_SUPPORT, 0)? == ("conflicts", 1));
     Ok(())
 }

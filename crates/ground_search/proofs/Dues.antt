@@ -24,7 +24,7 @@ get_mapped f (x ∷ xs) zero y e = (x, refl, same_Some (f x) y e)
 get_mapped f (x ∷ xs) (suc i) y e = get_mapped f xs i y e
 
 -- a place within a list has something
-get_there : {A : Type 0} (xs : List A) (i : ℕ) → i < length xs → (x : A) × (slice_get xs i ≡ Some x)
+pub get_there : {A : Type 0} (xs : List A) (i : ℕ) → i < length xs → (x : A) × (slice_get xs i ≡ Some x)
 get_there [] i low = absurd (omega arith)
 get_there (x ∷ xs) zero low = (x, refl)
 get_there (x ∷ xs) (suc i) low = get_there xs i (omega arith)
@@ -44,7 +44,7 @@ made_are_placed made n places fits within k among =
     )
 
 -- the maker of a rule without variables is itself
-maker_itself : (m : ℕ) → same_maker (m, []) (m, []) ≡ true
+pub maker_itself : (m : ℕ) → same_maker (m, []) (m, []) ≡ true
 maker_itself m = and_intro (nat_eq m m) (same_values [] []) (nat_eq-same m) refl
 
 module _ (v : Searching) (nodes : List Node) (made : List Made) (is : v.made ≡ map (made_of nodes) made) where

@@ -1,3 +1,4 @@
+mod Barred
 mod Chosen
 mod Dues
 mod FieldLemmas

@@ -33,7 +33,7 @@ use Rattle.ground_search.specs.Moves.{IsNamed, NamesAreSmall, AreTrueNames, AreT
 use Rattle.ground_search.proofs.Dues.{get_mapped}
 
 -- one that isn't there yet goes last
-repeats_more : (xs : List ℕ) (x : ℕ) → HasNoRepeats xs → ¬ (x ∈ xs) → HasNoRepeats (xs ++ x ∷ [])
+pub repeats_more : (xs : List ℕ) (x : ℕ) → HasNoRepeats xs → ¬ (x ∈ xs) → HasNoRepeats (xs ++ x ∷ [])
 repeats_more [] x once new = (λ i. i, tt)
 repeats_more (y ∷ xs) x once new = (
   λ i. elim (∈-append_cases y xs (x ∷ []) i) [ inl j ↦ once.0 j | inr j ↦ new (inl (sym (in_single j))) ],
@@ -76,7 +76,7 @@ same_named : (a b : Atom) → (let wrap : Atom → Option (AtomNode GroundAtom) 
 same_named a b e = cc
 
 -- what holds of all numbers of a list holds of each
-All-Each : (P Q : ℕ → Type 0) → ((x : ℕ) → P x → Q x) → (xs : List ℕ) → All P xs → Each Q xs
+pub All-Each : (P Q : ℕ → Type 0) → ((x : ℕ) → P x → Q x) → (xs : List ℕ) → All P xs → Each Q xs
 All-Each P Q more [] all = tt
 All-Each P Q more (x ∷ xs) all = (more x (All-head P x xs all), All-Each P Q more xs (All-tail P x xs all))
 
@@ -125,7 +125,7 @@ module _ (v : Searching) (nodes : List Node) (pool : Pool) (is : v.names ≡ nam
   as_many = ap length is ∙ length-map pool.atoms (name_of nodes pool.preds)
 
   -- what an id stands for
-  name_at : (x : ℕ) (n : arena.AtomNode) → slice_get pool.atoms x ≡ Some n → slice_get v.names x ≡ Some (name_of nodes pool.preds n)
+  pub name_at : (x : ℕ) (n : arena.AtomNode) → slice_get pool.atoms x ≡ Some n → slice_get v.names x ≡ Some (name_of nodes pool.preds n)
   name_at x n at = ap (λ ns. slice_get ns x) is ∙ slice_get-map (name_of nodes pool.preds) pool.atoms x ∙ ap (option_map (name_of nodes pool.preds)) at
 
   -- a named atom has a predicate and arguments

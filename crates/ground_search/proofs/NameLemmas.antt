@@ -1,5 +1,5 @@
 -- What the ids of a search stand for, as its pools grow.
-use Rattle.std.proofs.Common.{◌≡◌, ◌⊎◌, inl, inr, ℕ, zero, suc, ◌+◌, ◌<◌, ◌≤◌, Bool, true, false, List, [], ◌∷◌, ◌++◌, map, length, take, get_or, refl, sym, subst, ◌∙◌, ap, arith, length-append}
+use Rattle.std.proofs.Common.{◌≡◌, inl, inr, ℕ, zero, suc, ◌+◌, ◌<◌, ◌≤◌, List, [], ◌∷◌, ◌++◌, map, length, take, get_or, refl, sym, subst, ◌∙◌, ap, arith, length-append}
 use Rattle.std.specs.Prelude.{All, Option, Some, None, slice_get}
 use Rattle.std.specs.Option.{option_map}
 use Rattle.std.proofs.lemmas.List.{map-append, length-map, length-take-le}
@@ -11,8 +11,8 @@ use Rattle.alpha_outside.specs.declared.node.Node.{Node}
 use Rattle.alpha_outside.specs.declared.node.Node.TheVariants as term
 use Rattle.alpha_outside.specs.declared.pred.Pred.{Pred}
 use Rattle.alpha_outside.specs.declared.pred.Pred.TheVariants as pred
-use Rattle.core_meaning.specs.Atoms.{GroundAtom, User}
-use Rattle.search_theory.specs.States.{AtomNode, Named, BodyOf}
+use Rattle.core_meaning.specs.Atoms.{User}
+use Rattle.search_theory.specs.States.{Named, BodyOf}
 use Rattle.search_theory.specs.Events as theory
 use Rattle.search_theory.proofs.Basics.{in_single, get_in}
 use Rattle.term_pool.specs.Nodes.{IsPool, KeepsValues, PartsBelow, HasArguments, value_at}
@@ -20,7 +20,7 @@ use Rattle.term_pool.specs.Interning.{IsInterned}
 use Rattle.atom_pool.specs.declared.atom.AtomNode as arena
 use Rattle.atom_pool.specs.declared.atom.AtomNode.TheVariants as node
 use Rattle.atom_pool.specs.Pools.{Pool, IsAtomPool, Fits, HasArity, arity_of}
-use Rattle.atom_pool.specs.Meanings.{atom_of, atom_from, atom_at, IsBeside, IsUserAtom, HasArgumentsBelow}
+use Rattle.atom_pool.specs.Meanings.{atom_of, atom_at, IsBeside, IsUserAtom, HasArgumentsBelow}
 use Rattle.atom_pool.proofs.Beside.{interned_kept, user_kept, user_kept_by_pred, user_interned, beside_interned}
 use Rattle.answer_printer.proofs.AtomLemmas.{at_pred, same_atom}
 use Rattle.ground_search.specs.Searching.{name_of, names_of, IsUserPred}

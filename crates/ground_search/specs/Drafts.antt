@@ -1,5 +1,5 @@
 -- Nogoods as they are stored.
-use Rattle.std.specs.Prelude.{◌≡◌, ℕ, ◌<◌, ◌⊎◌, Bool, true, false, not, List, [], ◌∷◌, ◌++◌, map, Option, Some, None}
+use Rattle.std.specs.Prelude.{◌≡◌, ℕ, ◌⊎◌, Bool, true, false, not, List, [], ◌∷◌, ◌++◌, map, Option, Some, None}
 use Rattle.lists.specs.Lists.{◌∈◌}
 use Rattle.alpha_outside.specs.declared.literal.Lit.{Lit}
 use Rattle.search_theory.specs.Values.{lit}

@@ -3,3 +3,4 @@ pub mod Visits
 pub mod Moves
 pub mod Resolving
 pub mod Drafts
+pub mod Underivable

@@ -1,5 +1,5 @@
 -- What a search finds when it looks at its state.
-use Rattle.std.specs.Prelude.{◌≡◌, ℕ, ◌<◌, ◌≤◌, true, List, [], ◌∷◌, map, Option, Some, None, slice_get}
+use Rattle.std.specs.Prelude.{◌≡◌, ℕ, ◌<◌, ◌≤◌, true, List, [], map, Some, slice_get}
 use Rattle.lists.specs.Lists.{◌∈◌, Each, HasNoRepeats}
 use Rattle.alpha_outside.specs.declared.literal.Value.TheVariants.{True}
 use Rattle.search_theory.specs.declared.entry.Entry.{Entry}
@@ -7,7 +7,6 @@ use Rattle.search_theory.specs.Values.{value_of, lit, Holds}
 use Rattle.search_theory.specs.Nogoods.{Nogood, IsStruck, Gives, NoneStruck, NoneUnit}
 use Rattle.search_theory.specs.Tables.{Made}
 use Rattle.search_theory.specs.States.{IsName, IsMade, IsActive, Names}
-use Rattle.asp_meaning.specs.declared.value.Value as meaning
 use Rattle.asp_meaning.specs.Atoms.{Atom}
 use Rattle.asp_meaning.specs.Lines.{IsInOrder}
 use Rattle.core_rules.specs.declared.rules.CoreRule.{CoreRule}

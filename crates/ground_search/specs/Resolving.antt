@@ -1,5 +1,5 @@
 -- What becomes of an atom of a rule: its predicate and its arguments as terms, or a term that is too large.
-use Rattle.std.specs.Prelude.{◌≡◌, ℕ, ◌<◌, ◌≤◌, List, [], ◌∷◌, map, length, cond, Bool, true, false, Option, Some, None, slice_get}
+use Rattle.std.specs.Prelude.{◌≡◌, ℕ, ◌<◌, ◌≤◌, List, [], ◌∷◌, map, length, cond, Bool, true, false, Option, Some, slice_get}
 use Rattle.lists.specs.Lists.{◌∈◌, Each}
 use Rattle.alpha_outside.specs.declared.node.Node.{Node}
 use Rattle.alpha_outside.specs.declared.pred.Pred.{Pred}
@@ -8,17 +8,15 @@ use Rattle.alpha_outside.specs.declared.kinds.RuleKind.{RuleKind}
 use Rattle.alpha_outside.specs.declared.kinds.RuleKind.TheVariants as rule
 use Rattle.alpha_outside.specs.declared.event.Event.{Event}
 use Rattle.alpha_outside.specs.declared.event.Event.TheVariants as say
-use Rattle.asp_meaning.specs.Atoms.{Atom}
 use Rattle.core_rules.specs.declared.rules.CoreTerm.{CoreTerm}
 use Rattle.core_rules.specs.declared.rules.CoreAtom.{CoreAtom}
 use Rattle.core_rules.specs.declared.rules.CoreRule.{CoreRule}
 use Rattle.core_rules.specs.declared.rules.Core.{Core}
 use Rattle.core_meaning.specs.Terms.{eval_all}
-use Rattle.core_meaning.specs.Atoms.{GroundAtom, User}
-use Rattle.search_theory.specs.States.{State, IsName, Named}
+use Rattle.core_meaning.specs.Atoms.{GroundAtom}
+use Rattle.search_theory.specs.States.{IsName, Named}
 use Rattle.search_theory.specs.Events.{PartsBelow}
 use Rattle.term_pool.specs.Nodes.{value_at}
-use Rattle.atom_pool.specs.Meanings.{atom_of}
 use Rattle.term_eval.specs.Evals.{Grows, HasTooLarge}
 use Rattle.ground_search.specs.Searching.{Searching, state_of, terms_of, ids, with_name}
 use Rattle.core_rules.specs.Names.{IsNamedTerm}

@@ -1,6 +1,6 @@
 -- What contracts see of a search, as a state of the search's theory.
-use Rattle.std.specs.Prelude.{◌≡◌, ℕ, ◌+◌, ◌^◌, ◌<◌, ◌≤◌, Bool, true, false, nat_eq, List, [], ◌∷◌, ◌++◌, map, take, length, Option, Some, None, slice_get}
-use Rattle.lists.specs.Lists.{◌∈◌, Each}
+use Rattle.std.specs.Prelude.{◌≡◌, ℕ, ◌^◌, ◌<◌, ◌≤◌, Bool, true, false, nat_eq, List, [], ◌∷◌, ◌++◌, map, take, length, Option, Some, None, slice_get}
+use Rattle.lists.specs.Lists.{◌∈◌}
 use Rattle.alpha_outside.specs.declared.node.Node.{Node}
 use Rattle.alpha_outside.specs.declared.pred.Pred.{Pred}
 use Rattle.alpha_outside.specs.declared.pred.Pred.TheVariants as pred

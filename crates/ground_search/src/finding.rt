@@ -156,7 +156,7 @@ impl Search {
     }
 
     // Whether the id is that of a named atom, and not of a body.
-    fn is_named(&self, atom: AtomId) -> bool
+    pub(crate) fn is_named(&self, atom: AtomId) -> bool
         requires { atom < ids self.now }
         ensures yes { result ≡ true → IsNamed self.now atom }
         ensures no { result ≡ false → ¬ IsNamed self.now atom }

@@ -4,6 +4,7 @@
 //! of the theory. What follows what, and why that is right, is the enumerator's.
 #![tactic(auto)]
 
+mod covering;
 mod draft;
 mod finding;
 mod making;
@@ -12,6 +13,7 @@ mod resolving;
 mod search;
 mod visit;
 
+pub use covering::Underivable;
 pub use finding::Finding;
 pub use resolving::{Part, Resolved};
 pub use search::{Search, Stage};

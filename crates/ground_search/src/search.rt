@@ -55,6 +55,8 @@ pub struct Search {
     pub(crate) choices: Choices,
     pub(crate) nogoods: NogoodStore,
     pub(crate) trail: Trail,
+    /// From which atom on the next look goes for one that no rule gives.
+    pub(crate) tried: u32,
     closing: bool,
     stage: Stage,
 }
@@ -98,6 +100,7 @@ impl Search {
             choices: Choices::new(alloc),
             nogoods: NogoodStore::new(alloc),
             trail: Trail::new(alloc),
+            tried: 0,
             closing: false,
             stage: Stage::Free,
         })
@@ -133,6 +136,7 @@ impl Search {
     {
         self.trail.mark(self.nogoods.len());
         self.trail.decide(body, true);
+        self.tried = self.ground.atoms.len();
         self.closing = false;
     }
 

@@ -4,7 +4,7 @@ use Rattle.std.specs.Prelude.{Option, Some, None, slice_get}
 use Rattle.search_theory.specs.Instances.{Rules}
 use Rattle.search_theory.specs.Tables.{Made}
 use Rattle.search_theory.specs.States.{AtomNode, Named, BodyOf, State, IsPending}
-use Rattle.search_theory.specs.Events.{Event, NameTerm, NameAtom, NameBody, Number, Make, Put, Choose, Close, Strike, Learn, Back, Show, Pass, happens, BodyIsNext, Allowed}
+use Rattle.search_theory.specs.Events.{Event, NameTerm, NameAtom, NameBody, Number, Make, Put, Choose, Close, Strike, Learn, Justify, Back, Show, Pass, happens, BodyIsNext, Allowed}
 use Rattle.search_theory.specs.Journals.{replay, Legal}
 use Rattle.search_theory.proofs.Basics.{get_none, get_snoc}
 
@@ -63,6 +63,7 @@ module _ {N A K : Type 0} (core : Rules N A K) (s : State N A K) (h : BodyNames 
   body_names_keep listed (Close x) ok = record { once = h.once; are = h.are }
   body_names_keep listed (Strike n) ok = record { once = h.once; are = h.are }
   body_names_keep listed (Learn how ls) ok = record { once = h.once; are = h.are }
+  body_names_keep listed (Justify atoms ls) ok = record { once = h.once; are = h.are }
   body_names_keep listed (Back level) ok = record { once = h.once; are = h.are }
   body_names_keep listed (Show ids) ok = record { once = h.once; are = h.are }
   body_names_keep listed (Pass ids) ok = record { once = h.once; are = h.are }

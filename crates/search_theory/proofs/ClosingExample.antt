@@ -455,7 +455,7 @@ says_8 : SaysAll closing_rules told_8 journal_8
 says_8 = (told_7, say.Put 2 MustBe 0, refl, says_7, refl)
 
 says_9 : SaysAll closing_rules told_9 journal_9
-says_9 = (told_8, say.Learned 4 Decisions (lit 3 false ∷ []) [], refl, says_8, (refl, refl, refl))
+says_9 = (told_8, say.Learned 4 Decisions (lit 3 false ∷ []) [], refl, says_8, (refl, inl (refl, refl)))
 
 says_10 : SaysAll closing_rules told_10 journal_10
 says_10 = (told_9, say.Struck 4, refl, says_9, refl)

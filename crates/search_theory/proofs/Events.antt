@@ -8,13 +8,14 @@ use Rattle.search_theory.specs.Nogoods.{Nogood, IsStruck, Gives, NoneUnit}
 use Rattle.search_theory.specs.Instances.{Kind, Plain, Choice, Constraint, Instance, all_in, none_in, head_taken, Rules}
 use Rattle.search_theory.specs.Tables.{Made, nogoods_of}
 use Rattle.search_theory.specs.States.{Named, BodyOf, Phase, Free, MustLearn, Found, MustStrike, MustJump, Over, State, IsName, Agrees, Names, KindNames, Denotes, WasFound, AreUserAtoms, IsOpen, IsSound, IsActive, NoneActive, IsStuck, IsFull, AreTrueUserAtoms}
-use Rattle.search_theory.specs.Events.{Analysed, Justified, Decisions, Enumerated, Event, NameTerm, NameAtom, NameBody, Number, Make, Put, Choose, Close, Strike, Learn, Back, Show, Pass, phase_struck, phase_learned, MayStrike, decision, lits_in, lits_at, happens, BodyIsNext, Allowed}
+use Rattle.search_theory.specs.Events.{Analysed, Justified, Decisions, Enumerated, Event, NameTerm, NameAtom, NameBody, Number, Make, Put, Choose, Close, Strike, Learn, Justify, Back, Show, Pass, phase_struck, phase_learned, MayStrike, decision, lits_in, lits_at, happens, BodyIsNext, Allowed}
 use Rattle.search_theory.specs.Journals.{start, replay, Legal, IsFinished}
 use Rattle.search_theory.proofs.Basics.{in_single, get_left, get_last, get_in, bool_cases}
 use Rattle.search_theory.proofs.Meaning.{Meaning, OfAtom, OfBody, meaning_true, IsBody, Means, means_grows, truth_means, Grows, Known, known_grows, Later, AllKnown, sound_later}
 use Rattle.search_theory.proofs.Stack.{since_closed, Complete, GoodEntry, Good, agrees_all, struck_blocks, put_follows, choose_follows, close_follows, good_back, closed_complete, chosen_known, good_later, struck_at_0_blocks, all_at_0-hold}
 use Rattle.search_theory.proofs.Central.{GoodMade, Valid, names_in, central}
 use Rattle.search_theory.proofs.Instances.{table_sound}
+use Rattle.search_theory.proofs.Covers.{justified_known, justified_sound}
 use Rattle.search_theory.proofs.Keep.{Blocked, PhaseHolds, IsSafe, valid_later, made_later, open_before, later_from, from_same, name_keeps, HeadHas, table_all}
 use Rattle.alpha_outside.specs.declared.node.Node.{Node}
 
@@ -476,6 +477,11 @@ module _ {N A K : Type 0} (core : Rules N A K) (s : State N A K) where
       blocked = subst (λ z. PhaseHolds core s z) ok.0.1 inv.phase
   safe_keeps listed (Learn Analysed ls) inv ok = absurd ok.0
   safe_keeps listed (Learn Justified ls) inv ok = absurd ok.0
+  safe_keeps listed (Justify atoms ls) inv ok = record {
+    valid = learn_keeps ls s.phase inv.valid (justified_known core s inv.valid atoms ls ok.0) (justified_sound core s inv.valid atoms ls ok.0);
+    closing = inv.closing;
+    phase = free_holds (happens core s (Justify atoms ls)) s.phase ok.0.free;
+  }
   safe_keeps listed (Back l) inv ok = record {
     valid = stack_keeps (back_to l s.stack) false Free inv.valid (good_back core s l s.stack inv.valid.good);
     closing = λ w. cc;

@@ -609,7 +609,7 @@ says_11 : SaysAll example_rules told_11 journal_11
 says_11 = (told_10, say.Shown (0 ∷ []), refl, says_10, refl)
 
 says_12 : SaysAll example_rules told_12 journal_12
-says_12 = (told_11, say.Learned 6 Enumerated (lit 2 true ∷ []) [], refl, says_11, (refl, refl, refl))
+says_12 = (told_11, say.Learned 6 Enumerated (lit 2 true ∷ []) [], refl, says_11, (refl, inl (refl, refl)))
 
 says_13 : SaysAll example_rules told_13 journal_13
 says_13 = (told_12, say.Back 0, refl, says_12, refl)
@@ -633,7 +633,7 @@ says_19 : SaysAll example_rules told_19 journal_19
 says_19 = (told_18, say.Shown (1 ∷ []), refl, says_18, refl)
 
 says_20 : SaysAll example_rules told_20 journal_20
-says_20 = (told_19, say.Learned 7 Enumerated (lit 3 true ∷ []) [], refl, says_19, (refl, refl, refl))
+says_20 = (told_19, say.Learned 7 Enumerated (lit 3 true ∷ []) [], refl, says_19, (refl, inl (refl, refl)))
 
 says_21 : SaysAll example_rules told_21 journal_21
 says_21 = (told_20, say.Back 0, refl, says_20, refl)
@@ -645,7 +645,7 @@ says_23 : SaysAll example_rules told_23 journal_23
 says_23 = (told_22, say.Put 0 MustBe 3, refl, says_22, refl)
 
 says_24 : SaysAll example_rules told_24 journal_24
-says_24 = (told_23, say.Learned 8 Decisions [] [], refl, says_23, (refl, refl, refl))
+says_24 = (told_23, say.Learned 8 Decisions [] [], refl, says_23, (refl, inl (refl, refl)))
 
 says_25 : SaysAll example_rules told_25 journal_25
 says_25 = (told_24, say.Struck 8, refl, says_24, refl)

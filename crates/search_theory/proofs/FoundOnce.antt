@@ -8,7 +8,7 @@ use Rattle.search_theory.specs.Nogoods.{Nogood}
 use Rattle.search_theory.specs.Instances.{Rules, IsExtension}
 use Rattle.search_theory.specs.Tables.{nogoods_of}
 use Rattle.search_theory.specs.States.{Named, Free, Found, State, IsName, truth, Agrees, WasFound, AreUserAtoms, IsFull, AreTrueUserAtoms}
-use Rattle.search_theory.specs.Events.{Analysed, Justified, Decisions, Enumerated, Event, NameTerm, NameAtom, NameBody, Number, Make, Put, Choose, Close, Strike, Learn, Back, Show, Pass, happens, Allowed}
+use Rattle.search_theory.specs.Events.{Analysed, Justified, Decisions, Enumerated, Event, NameTerm, NameAtom, NameBody, Number, Make, Put, Choose, Close, Strike, Learn, Justify, Back, Show, Pass, happens, Allowed}
 use Rattle.search_theory.specs.Journals.{replay, Legal}
 use Rattle.search_theory.proofs.Meaning.{means_grows, truth_means, Known, truth_grows, AllKnown}
 use Rattle.search_theory.proofs.Stack.{chosen_known}
@@ -39,6 +39,7 @@ numbers_cases core s (Choose b up) = inl refl
 numbers_cases core s (Close x) = inl refl
 numbers_cases core s (Strike n) = inl refl
 numbers_cases core s (Learn how ls) = inl refl
+numbers_cases core s (Justify atoms ls) = inl refl
 numbers_cases core s (Back level) = inl refl
 numbers_cases core s (Show ids) = inl refl
 numbers_cases core s (Pass ids) = inl refl
@@ -90,6 +91,7 @@ module _ {N A K : Type 0} (core : Rules N A K) (s : State N A K) (valid : Valid 
   nogoods_more : (e : Event A K) (ng : Nogood) → ng ∈ s.nogoods → ng ∈ State.nogoods (happens core s e)
   nogoods_more (Make k) ng i = ∈-append_left ng s.nogoods (nogoods_of k) i
   nogoods_more (Learn how ls) ng i = ∈-append_left ng s.nogoods (nogood None ls ∷ []) i
+  nogoods_more (Justify atoms ls) ng i = ∈-append_left ng s.nogoods (nogood None ls ∷ []) i
   nogoods_more (NameTerm node) ng i = i
   nogoods_more (NameAtom a) ng i = i
   nogoods_more NameBody ng i = i
@@ -119,6 +121,7 @@ module _ {N A K : Type 0} (core : Rules N A K) (s : State N A K) (valid : Valid 
   found_cases (Close x) ids w = inl w
   found_cases (Strike n) ids w = inl w
   found_cases (Learn how ls) ids w = inl w
+  found_cases (Justify atoms ls) ids w = inl w
   found_cases (Back level) ids w = inl w
 
   -- literals that a set found before makes true are true of it later
@@ -161,6 +164,7 @@ module _ {N A K : Type 0} (core : Rules N A K) (s : State N A K) (valid : Valid 
       inl (nogood None ls, ∈-append_right (nogood None ls) s.nogoods (nogood None ls ∷ []) (inl refl), subst (λ z. MakesTrue core (happens core s (Learn Enumerated ls)) found z) (sym ok.0.0) later)
   just_found (Learn Analysed ls) ok p found makes later = absurd ok.0
   just_found (Learn Justified ls) ok p found makes later = absurd ok.0
+  just_found (Justify atoms ls) ok p found makes later = (let q = ok.0.free in cc)
   just_found (Back level) ok p found makes later = (let q = ok.1.1 in cc)
   just_found (Show ids) ok p found makes later = (let q = ok.0 in cc)
   just_found (Pass ids) ok p found makes later = (let q = ok.0 in cc)

@@ -8,9 +8,9 @@ use Rattle.search_theory.specs.Nogoods.{Nogood, IsStruck, Gives}
 use Rattle.search_theory.specs.Instances.{Kind, Plain, Choice, Constraint, Instance, Rules}
 use Rattle.search_theory.specs.Tables.{Made, BodyFits, lits_of, set_of, each_with, with_body, table_of, nogoods_of}
 use Rattle.search_theory.specs.States.{Named, BodyOf, Phase, Free, MustLearn, Found, MustStrike, MustJump, Over, State, IsName, KindNames, IsActive}
-use Rattle.search_theory.specs.Events.{Analysed, Justified, Decisions, Enumerated, Event, NameTerm, NameAtom, NameBody, Number, Make, Put, Choose, Close, Strike, Learn, Back, Show, Pass, phase_struck, phase_learned, MayStrike, decision, lits_at, happens, Allowed}
+use Rattle.search_theory.specs.Events.{Analysed, Justified, Decisions, Enumerated, Event, NameTerm, NameAtom, NameBody, Number, Make, Put, Choose, Close, Strike, Learn, Justify, Back, Show, Pass, phase_struck, phase_learned, MayStrike, decision, lits_at, happens, Allowed}
 use Rattle.search_theory.specs.Journals.{replay, Legal}
-use Rattle.search_theory.proofs.Basics.{in_single, get_left, get_last, value_cases}
+use Rattle.search_theory.proofs.Basics.{in_single, get_left, get_last, value_cases, some_or_all}
 use Rattle.search_theory.proofs.Stack.{GoodEntry, Good, chosen_with-more, chosen_with-cases, good_back}
 use Rattle.search_theory.proofs.Tables.{nogood, set_of-is, set_of-all, lits_of-in}
 use Rattle.search_theory.proofs.Central.{GoodMade, Valid, names_in}
@@ -32,16 +32,6 @@ NewlyChosen s = (ng : Nogood) → ng ∈ s.nogoods → ng.lits ⊆ chosen s.stac
 -- each literal chosen is of a body, and holds
 abbrev pub ChosenAreBodies : {N A K : Type 0} → State N A K → Type 0
 ChosenAreBodies s = (l : Lit) → l ∈ chosen s.stack → (j : ℕ) × (slice_get s.names l.atom ≡ Some (BodyOf j))
-
-some_or_all : {P : Lit → Type 0} (x : Lit) (ls : List Lit) → ((l : Lit) → l ∈ ls → (l ≡ x) ⊎ P l) → (x ∈ ls) ⊎ ((l : Lit) → l ∈ ls → P l)
-some_or_all x [] h = inr (λ l i. absurd i)
-some_or_all {P} x (k ∷ ls) h = elim (h k (inl refl)) [
-  | inl e ↦ inl (inl (sym e))
-  | inr p ↦ elim (some_or_all {P = P} x ls (λ l i. h l (inr i))) [
-    | inl i ↦ inl (inr i)
-    | inr a ↦ inr (λ l i. elim i [ inl e ↦ subst P (sym e) p | inr j ↦ a l j ])
-  ]
-]
 
 -- where nothing is unit or struck, no nogood is made of a new literal and of literals that hold
 new_literal : (stack : List Entry) (ng : Nogood) → (IsStruck stack ng → ⊥) → ((a : ℕ) (v : Value) → Gives stack ng a v → ⊥)
@@ -284,6 +274,16 @@ module _ {N A K : Type 0} (core : Rules N A K) (s : State N A K) (valid : Valid 
   newly_keeps listed (Learn Enumerated ls) ok = (bodies, (λ ng i sub. learn_newly s.phase ls ng (inr (inr ok.0.1)) i sub))
   newly_keeps listed (Learn Analysed ls) ok = absurd ok.0
   newly_keeps listed (Learn Justified ls) ok = absurd ok.0
+  newly_keeps listed (Justify atoms ls) ok = (
+    bodies,
+    (λ ng i sub. elim (∈-append_cases ng s.nogoods (nogood None ls ∷ []) i) [
+      | inl j ↦ inl (old_newly Free refl ok.0.free ng j sub)
+      | inr j ↦ absurd (not_chosen (sub (lit ok.0.id true) (subst (λ (z : Nogood). lit ok.0.id true ∈ z.lits) (sym (in_single j)) (subst (λ z. lit ok.0.id true ∈ z) (sym ok.0.lits_are) (inl refl)))))
+    ]),
+  )
+    where
+      not_chosen : ¬ (lit ok.0.id true ∈ chosen s.stack)
+      not_chosen m = let r = bodies (lit ok.0.id true) m in let n = ok.0.named in let bad = sym n ∙ r.1 in cc
   newly_keeps listed (Back l) ok = (
     (λ x i. bodies x (chosen_back l s.stack x i)),
     (λ ng i sub. elim (newly ng i (λ x m. chosen_back l s.stack x (sub x m))) [

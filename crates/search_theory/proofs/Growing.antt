@@ -2,7 +2,7 @@
 use Rattle.std.proofs.Common.{List, [], ◌∷◌, ◌++◌, length, refl, ◌∙◌, inl, inr}
 use Rattle.search_theory.specs.Instances.{Rules}
 use Rattle.search_theory.specs.States.{Named, BodyOf, State}
-use Rattle.search_theory.specs.Events.{Event, NameTerm, NameAtom, NameBody, Number, Make, Put, Choose, Close, Strike, Learn, Back, Show, Pass, happens, Allowed}
+use Rattle.search_theory.specs.Events.{Event, NameTerm, NameAtom, NameBody, Number, Make, Put, Choose, Close, Strike, Learn, Justify, Back, Show, Pass, happens, Allowed}
 use Rattle.search_theory.specs.Journals.{replay, Legal}
 use Rattle.search_theory.proofs.Meaning.{Grows, known_grows, Later}
 use Rattle.search_theory.proofs.Central.{Valid}
@@ -42,6 +42,7 @@ event_later core s listed (Choose b up) v ok = later_from core s (happens core s
 event_later core s listed (Close x) v ok = later_from core s (happens core s (Close x)) refl (record { names = λ x n e. e; made = λ j k e. e }) (λ ids w. w)
 event_later core s listed (Strike n) v ok = later_from core s (happens core s (Strike n)) refl (record { names = λ x n e. e; made = λ j k e. e }) (λ ids w. w)
 event_later core s listed (Learn how ls) v ok = later_from core s (happens core s (Learn how ls)) refl (record { names = λ x n e. e; made = λ j k e. e }) (λ ids w. w)
+event_later core s listed (Justify atoms ls) v ok = later_from core s (happens core s (Justify atoms ls)) refl (record { names = λ x n e. e; made = λ j k e. e }) (λ ids w. w)
 event_later core s listed (Back l) v ok = later_from core s (happens core s (Back l)) refl (record { names = λ x n e. e; made = λ j k e. e }) (λ ids w. w)
 event_later core s listed (Show ids) v ok = later_from core s (happens core s (Show ids)) refl (record { names = λ x n e. e; made = λ j k e. e }) (λ k w. elim w [ inl i ↦ inl (inr i) | inr i ↦ inr i ])
 event_later core s listed (Pass ids) v ok = later_from core s (happens core s (Pass ids)) refl (record { names = λ x n e. e; made = λ j k e. e }) (λ k w. elim w [ inl i ↦ inl i | inr i ↦ inr (inr i) ])

@@ -8,19 +8,20 @@ use Rattle.search_theory.specs.Nogoods.{Nogood}
 use Rattle.search_theory.specs.Instances.{Plain, Instance, Rules}
 use Rattle.search_theory.specs.Tables.{lits_of, set_of, each_with, table_of}
 use Rattle.search_theory.specs.States.{Named, State, IsName, IsSound, AreTrueUserAtoms, IsSetOf}
-use Rattle.search_theory.specs.Events.{Analysed, Justified, Decisions, Enumerated, Event, NameTerm, NameAtom, NameBody, Number, Make, Put, Choose, Close, Strike, Learn, Back, Show, Pass, happens, Allowed}
+use Rattle.search_theory.specs.Events.{Analysed, Justified, Decisions, Enumerated, Event, NameTerm, NameAtom, NameBody, Number, Make, Put, Choose, Close, Strike, Learn, Justify, Back, Show, Pass, happens, Allowed}
 use Rattle.search_theory.specs.Journals.{replay, Legal}
 use Rattle.search_theory.proofs.Basics.{get_in, and_intro, nat_eq-same}
 use Rattle.search_theory.proofs.Meaning.{OfAtom, OfBody, Grows, Known, sound_later}
 use Rattle.search_theory.proofs.Stack.{agrees_all, closed_complete}
 use Rattle.search_theory.proofs.Tables.{set_of-lits, in_lits_of}
 use Rattle.search_theory.proofs.Central.{Valid, central}
+use Rattle.search_theory.proofs.Covers.{justified_sound, not_covered}
 use Rattle.search_theory.proofs.Keep.{PhaseHolds}
 use Rattle.search_theory.proofs.Events.{legal_safe, stuck_blocks}
 use Rattle.search_theory.proofs.Support.{legal_founds}
 use Rattle.search_theory.proofs.Growing.{event_later, legal_before, journal_later}
 use Rattle.search_theory.proofs.Shown.{true_set, set_true, true_in_set, true_set_answers}
-use Rattle.search_theory.specs.Laws.{LevelsAre, LevelsAreTold, ValuesFollow, SettledIsAll, ClosedIsAll, NogoodsAreSound, HasMeaning, SoundStays, LearnedIsSound, FullIsAnswerSet, ShownOnce, ShownIsNotListed, HeadsStayOpen, ClosedIsNoProof, MustBeIsNotShown, BackRestores, MustBeAgain}
+use Rattle.search_theory.specs.Laws.{LevelsAre, LevelsAreTold, ValuesFollow, SettledIsAll, ClosedIsAll, NogoodsAreSound, HasMeaning, SoundStays, LearnedIsSound, JustifiedIsSound, FactsAreNotCovered, FullIsAnswerSet, ShownOnce, ShownIsNotListed, HeadsStayOpen, ClosedIsNoProof, MustBeIsNotShown, BackRestores, MustBeAgain}
 
 -- law: every value follows
 pub values_follow : {N A K : Type 0} → ValuesFollow N A K
@@ -48,6 +49,7 @@ levels_are_told core listed (Number x a number ∷ journal) legal = levels_are_t
 levels_are_told core listed (Make k ∷ journal) legal = levels_are_told core listed journal legal.0
 levels_are_told core listed (Strike n ∷ journal) legal = levels_are_told core listed journal legal.0
 levels_are_told core listed (Learn how ls ∷ journal) legal = levels_are_told core listed journal legal.0
+levels_are_told core listed (Justify atoms ls ∷ journal) legal = levels_are_told core listed journal legal.0
 levels_are_told core listed (Show ids ∷ journal) legal = levels_are_told core listed journal legal.0
 levels_are_told core listed (Pass ids ∷ journal) legal = levels_are_told core listed journal legal.0
 
@@ -91,6 +93,14 @@ learned_is_sound core listed journal legal Enumerated ls may =
 learned_is_sound core listed journal legal Analysed ls may = absurd may
 learned_is_sound core listed journal legal Justified ls may = absurd may
 
+-- law: what may be justified is sound
+pub justified_is_sound : {N A K : Type 0} → JustifiedIsSound N A K
+justified_is_sound core listed journal legal atoms ls may = justified_sound core (replay core journal) (legal_safe core listed journal legal).valid atoms ls may
+
+-- law: no fact is in a cover
+pub facts_are_not_covered : {N A K : Type 0} → FactsAreNotCovered N A K
+facts_are_not_covered core listed journal legal m a is atoms lits cover = not_covered core (replay core journal) (legal_safe core listed journal legal).valid m a is atoms lits cover
+
 -- law: a full state has a core answer set
 pub full_is_answer_set : {N A K : Type 0} → FullIsAnswerSet N A K
 full_is_answer_set core listed journal legal ids full are =
@@ -119,6 +129,7 @@ shown_once core listed (Choose b up ∷ journal) legal = shown_once core listed 
 shown_once core listed (Close x ∷ journal) legal = shown_once core listed journal legal.0
 shown_once core listed (Strike n ∷ journal) legal = shown_once core listed journal legal.0
 shown_once core listed (Learn how ls ∷ journal) legal = shown_once core listed journal legal.0
+shown_once core listed (Justify atoms ls ∷ journal) legal = shown_once core listed journal legal.0
 shown_once core listed (Back l ∷ journal) legal = shown_once core listed journal legal.0
 shown_once core listed (Pass ids ∷ journal) legal = shown_once core listed journal legal.0
 
@@ -157,6 +168,7 @@ shown_cases core s (Choose b up) ids i = inl i
 shown_cases core s (Close x) ids i = inl i
 shown_cases core s (Strike n) ids i = inl i
 shown_cases core s (Learn how ls) ids i = inl i
+shown_cases core s (Justify atoms ls) ids i = inl i
 shown_cases core s (Back l) ids i = inl i
 shown_cases core s (Pass k) ids i = inl i
 

@@ -5,6 +5,7 @@ pub mod Tables
 pub mod Central
 pub mod Instances
 pub mod Keep
+pub mod Covers
 pub mod Events
 pub mod Support
 pub mod Shown

@@ -5,7 +5,7 @@ use Rattle.search_theory.specs.Values.{Value, MustBe, False, Lit, Entry, back_to
 use Rattle.search_theory.specs.Nogoods.{IsLeft, Gives}
 use Rattle.search_theory.specs.Instances.{Rules}
 use Rattle.search_theory.specs.States.{Phase, Free, MustLearn, Found, MustStrike, MustJump, Over, State}
-use Rattle.search_theory.specs.Events.{Analysed, Justified, Decisions, Enumerated, Event, NameTerm, NameAtom, NameBody, Number, Make, Put, Choose, Close, Strike, Learn, Back, Show, Pass, phase_struck, phase_learned, MayStrike, lits_in, lits_at, happens, IsNew, Allowed}
+use Rattle.search_theory.specs.Events.{Analysed, Justified, Decisions, Enumerated, Event, NameTerm, NameAtom, NameBody, Number, Make, Put, Choose, Close, Strike, Learn, Justify, Back, Show, Pass, phase_struck, phase_learned, MayStrike, lits_in, lits_at, happens, IsNew, Allowed}
 use Rattle.search_theory.specs.Journals.{replay, Legal}
 use Rattle.search_theory.proofs.Basics.{get_last, lit_is}
 use Rattle.search_theory.proofs.Tables.{nogood}
@@ -82,6 +82,7 @@ module _ {N A K : Type 0} (core : Rules N A K) (s : State N A K) where
       subst (λ z. PhaseLeads (happens core s (Learn Enumerated ls)) (phase_learned z (length s.nogoods) ls)) (sym ok.0.1) (new_here ls ok.0.0, (λ none. ok.0.2 (ok.0.0 ∙ none)))
   leads_keep listed (Learn Analysed ls) h ok = absurd ok.0
   leads_keep listed (Learn Justified ls) h ok = absurd ok.0
+  leads_keep listed (Justify atoms ls) h ok = free_leads (happens core s (Justify atoms ls)) s.phase ok.0.free
   leads_keep listed (Back level) h ok = tt
   leads_keep listed (Show ids) h ok = tt
   leads_keep listed (Pass ids) h ok = tt

@@ -5,7 +5,7 @@ use Rattle.lists.specs.Lists.{◌∈◌}
 use Rattle.search_theory.specs.Values.{MustBe, False, Closed, Entry, value_of, opened, level_of, back_to, HasClosed, MustSinceClosed}
 use Rattle.search_theory.specs.Instances.{Rules}
 use Rattle.search_theory.specs.States.{AtomNode, Named, BodyOf, State}
-use Rattle.search_theory.specs.Events.{Event, NameTerm, NameAtom, NameBody, Number, Make, Put, Choose, Close, Strike, Learn, Back, Show, Pass, happens, Allowed}
+use Rattle.search_theory.specs.Events.{Event, NameTerm, NameAtom, NameBody, Number, Make, Put, Choose, Close, Strike, Learn, Justify, Back, Show, Pass, happens, Allowed}
 use Rattle.search_theory.specs.Journals.{replay, Legal}
 use Rattle.search_theory.proofs.Basics.{get_snoc, value_cases, get_none}
 use Rattle.search_theory.proofs.Meaning.{OfAtom, OfBody, Known}
@@ -59,6 +59,7 @@ module _ {N A K : Type 0} (core : Rules N A K) (s : State N A K) (valid : Valid 
   clean_keep listed (Close x) h ok = ((λ reason w. (refl, ok.5)), h)
   clean_keep listed (Strike n) h ok = h
   clean_keep listed (Learn how ls) h ok = h
+  clean_keep listed (Justify atoms ls) h ok = h
   clean_keep listed (Back l) h ok = clean_back s.names l s.stack h
   clean_keep listed (Show ids) h ok = h
   clean_keep listed (Pass ids) h ok = h

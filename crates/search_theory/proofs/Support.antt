@@ -8,7 +8,7 @@ use Rattle.search_theory.specs.Nogoods.{Nogood, Rises, Gives}
 use Rattle.search_theory.specs.Instances.{Kind, Plain, Choice, Constraint, IsHead, Rules}
 use Rattle.search_theory.specs.Tables.{Made, lits_of, once, set_of, each_with, with_body, table_of, nogoods_of}
 use Rattle.search_theory.specs.States.{Named, BodyOf, State, IsName, KindNames}
-use Rattle.search_theory.specs.Events.{Analysed, Justified, Decisions, Enumerated, Event, NameTerm, NameAtom, NameBody, Number, Make, Put, Choose, Close, Strike, Learn, Back, Show, Pass, happens, Allowed}
+use Rattle.search_theory.specs.Events.{Analysed, Justified, Decisions, Enumerated, Event, NameTerm, NameAtom, NameBody, Number, Make, Put, Choose, Close, Strike, Learn, Justify, Back, Show, Pass, happens, Allowed}
 use Rattle.search_theory.specs.Journals.{replay, Legal}
 use Rattle.search_theory.proofs.Basics.{in_single, get_in, value_cases}
 use Rattle.search_theory.proofs.Stack.{Good, true_stays}
@@ -233,6 +233,13 @@ module _ {N A K : Type 0} (core : Rules N A K) (s : State N A K) (valid : Valid 
       ]
   founds_keep listed (Learn Analysed ls) ok = absurd ok.0
   founds_keep listed (Learn Justified ls) ok = absurd ok.0
+  founds_keep listed (Justify atoms ls) ok = record {
+    heads = λ ng i a h. elim (∈-append_cases ng s.nogoods (nogood None ls ∷ []) i) [
+      | inl j ↦ founds.heads ng j a h
+      | inr j ↦ absurd (none_head a (sym (ap (λ (z : Nogood). z.head) (in_single j)) ∙ h))
+    ];
+    supported = supported_more s (happens core s (Justify atoms ls)) (λ k i. i) s.stack founds.supported;
+  }
   founds_keep listed (Back l) ok = record { heads = founds.heads; supported = supported_more s (happens core s (Back l)) (λ k i. i) (back_to l s.stack) (supported_back s l s.stack founds.supported) }
   founds_keep listed (Show ids) ok = record { heads = founds.heads; supported = supported_more s (happens core s (Show ids)) (λ k i. i) s.stack founds.supported }
   founds_keep listed (Pass ids) ok = record { heads = founds.heads; supported = supported_more s (happens core s (Pass ids)) (λ k i. i) s.stack founds.supported }

@@ -9,6 +9,7 @@ use Rattle.search_theory.specs.Values.{Value, True, MustBe, False, Lit, Given, C
 use Rattle.search_theory.specs.Nogoods.{Nogood, IsStruck, Gives, NoneStruck, NoneUnit}
 use Rattle.search_theory.specs.Instances.{Instance, Rules}
 use Rattle.search_theory.specs.Tables.{Made, BodyFits, nogoods_of}
+use Rattle.search_theory.specs.Covers.{MayJustify}
 use Rattle.search_theory.specs.States.{Named, BodyOf, Phase, Free, MustLearn, Found, MustStrike, MustJump, Over, State, IsName, IsPending, Denotes, IsUp, IsActive, IsMade, IsSettled, IsStuck, IsFull, AreTrueUserAtoms, IsSetOf}
 
 -- one event of a journal, over atoms and makers. The project's events speak of ids: `Journals` says how those are read
@@ -28,6 +29,8 @@ pub data Event (A K : Type 0) : Type 0 where
   Close : ℕ → Event A K
   Strike : ℕ → Event A K
   Learn : How → List Lit → Event A K
+  -- the next nogood, which is justified by a cover of these atoms
+  Justify : List A → List Lit → Event A K
   Back : ℕ → Event A K
   Show : List ℕ → Event A K
   Pass : List ℕ → Event A K
@@ -36,8 +39,9 @@ pub data Event (A K : Type 0) : Type 0 where
 --
 -- This part is the form before there is learning: a stuck atom is followed by the nogood of the literals chosen, which is then noted as struck, and
 -- by Back; another struck nogood by the nogood of the literals chosen and Back; and where that nogood is empty, it is noted as struck and ends the
--- journal. With learning a struck nogood is followed by an analysed nogood or is kept, where it meets no closed atom. With covers justified nogoods
--- come too, and the literals chosen are learned only after a Wide. Those forms replace the definitions of this part and nothing else.
+-- journal. With learning a struck nogood is followed by an analysed nogood or is kept, where it meets no closed atom. With covers for all that is
+-- stuck, the literals chosen are learned only after a Wide. Those forms replace the definitions of this part and nothing else. A nogood that is
+-- justified by a cover may be learned wherever nothing is unit or struck; where all its literals hold, it is noted as struck like any other.
 
 -- after a struck nogood, of which it is told whether all its literals stand at level 0: that ends the journal; else the search has to learn,
 -- or, where this was the nogood just learned, to go back
@@ -57,7 +61,7 @@ abbrev pub MayStrike : Phase → ℕ → Type 0
 MayStrike phase n = (phase ≡ Free) ⊎ (phase ≡ MustStrike n)
 
 -- the form of a nogood that is learned: the literals chosen, after a struck nogood or a stuck atom; or the literals chosen, of which there are
--- some, directly after a set was shown or passed
+-- some, directly after a set was shown or passed. A justified nogood is learned by an event of its own
 abbrev pub MayLearn : {N A K : Type 0} → Rules N A K → State N A K → How → List Lit → Type 0
 MayLearn core s Decisions ls = (ls ≡ chosen s.stack) × ((s.phase ≡ MustLearn) ⊎ ((s.phase ≡ Free) × ((x : ℕ) × IsStuck core s x)))
 MayLearn core s Enumerated ls = (ls ≡ chosen s.stack) × (s.phase ≡ Found) × (¬ (ls ≡ []))
@@ -104,6 +108,7 @@ happens core s (Learn how ls) = record s {
   nogoods = s.nogoods ++ record { lits = ls; head = None } ∷ [];
   phase = phase_learned s.phase (length s.nogoods) ls;
 }
+happens core s (Justify atoms ls) = record s { nogoods = s.nogoods ++ record { lits = ls; head = None } ∷ [] }
 happens core s (Back level) = record s { stack = back_to level s.stack; closing = false; phase = Free }
 happens core s (Show ids) = record s { shown = ids ∷ s.shown; phase = Found }
 happens core s (Pass ids) = record s { passed = ids ∷ s.passed; phase = Found }
@@ -161,6 +166,7 @@ Allowed {N} {A} {K} core listed s (Close x) =
     × (s.closing ≡ false → IsSettled core s)
 Allowed core listed s (Strike n) = MayStrike s.phase n × ((ng : Nogood) × (slice_get s.nogoods n ≡ Some ng) × IsStruck s.stack ng)
 Allowed core listed s (Learn how ls) = MayLearn core s how ls × IsNew s.nogoods ls
+Allowed core listed s (Justify atoms ls) = MayJustify core s atoms ls × IsNew s.nogoods ls
 Allowed core listed s (Back level) = (level < level_of s.stack) × ((n : ℕ) × (s.phase ≡ MustJump n) × IsUnitAt (back_to level s.stack) s.nogoods n)
 Allowed {N} {A} {K} core listed s (Show ids) =
     (s.phase ≡ Free) × IsFull core s × AreTrueUserAtoms core s ids

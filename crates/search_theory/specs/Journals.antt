@@ -1,13 +1,15 @@
 -- Journals: the state that one leads to, which are legal, how the project's events are read, and where a search is finished.
-use Rattle.std.specs.Prelude.{◌≡◌, ◌<◌, ◌⊎◌, true, false, List, [], ◌∷◌, ◌++◌, length}
+use Rattle.std.specs.Prelude.{◌≡◌, ◌<◌, ◌⊎◌, ℕ, true, false, List, [], ◌∷◌, ◌++◌, map, length}
 use Rattle.lists.specs.Lists.{Each}
 use Rattle.alpha_outside.specs.declared.event.Event as outside
 use Rattle.alpha_outside.specs.declared.event.Event.TheVariants as say
+use Rattle.alpha_outside.specs.declared.pattern.Pattern.{Pattern}
+use Rattle.alpha_outside.specs.declared.pattern.PatternTerm.TheVariants.{Known}
 use Rattle.search_theory.specs.Values.{chosen}
 use Rattle.search_theory.specs.Instances.{Rules}
 use Rattle.search_theory.specs.Tables.{Made}
 use Rattle.search_theory.specs.States.{Free, Found, Over, State}
-use Rattle.search_theory.specs.Events.{Event, NameTerm, NameAtom, NameBody, Number, Make, Put, Choose, Close, Strike, Learn, Back, Show, Pass, happens, Allowed}
+use Rattle.search_theory.specs.Events.{Justified, Event, NameTerm, NameAtom, NameBody, Number, Make, Put, Choose, Close, Strike, Learn, Justify, Back, Show, Pass, happens, Allowed}
 
 -- the state before any event
 abbrev pub start : {N A K : Type 0} → Rules N A K → State N A K
@@ -25,8 +27,21 @@ Legal core listed (e ∷ earlier) = Legal core listed earlier × Allowed core li
 
 -- ---- the project's events
 
+-- the pattern is that of this atom alone: it has terms so far in place of holes, and excepts nothing
+abbrev pub IsPatternOf : {N A K : Type 0} → Rules N A K → State N A K → Pattern → A → Type 0
+IsPatternOf core s p a =
+    (args : List ℕ) × (p.args ≡ map Known args) × (p.except ≡ []) × Each (λ t. t < length s.terms) args × (core.names_atom s.terms p.pred args a ≡ true)
+
+-- the patterns are those of these atoms, one by one
+abbrev pub ArePatternsOf : {N A K : Type 0} → Rules N A K → State N A K → List Pattern → List A → Type 0
+ArePatternsOf core s [] [] = Unit {0}
+ArePatternsOf core s [] (a ∷ atoms) = ⊥
+ArePatternsOf core s (p ∷ ps) [] = ⊥
+ArePatternsOf core s (p ∷ ps) (a ∷ atoms) = IsPatternOf core s p a × ArePatternsOf core s ps atoms
+
 -- in this state the project's event says this one: an id that it names anew is the next one, and its predicate, its maker and their argument
--- ids stand for the atom and the maker by the terms so far. Kept, Wide and a nogood with patterns belong to later forms of the search
+-- ids stand for the atom and the maker by the terms so far. A nogood with patterns is a justified one, whose patterns are its atoms. Kept, Wide
+-- and patterns with holes belong to later forms of the search
 abbrev pub Says : {N A K : Type 0} → Rules N A K → State N A K → outside.Event → Event A K → Type 0
 Says core s (say.Term id node) e = (id ≡ length s.terms) × (e ≡ NameTerm node)
 Says {N} {A} {K} core s (say.Atom id pred args) e =
@@ -40,7 +55,9 @@ Says core s (say.Chosen body up) e = e ≡ Choose body up
 Says core s (say.Closed atom) e = e ≡ Close atom
 Says core s (say.Struck nogood) e = e ≡ Strike nogood
 Says core s (say.Kept nogood) e = ⊥
-Says core s (say.Learned nogood how lits cover) e = (nogood ≡ length s.nogoods) × (cover ≡ []) × (e ≡ Learn how lits)
+Says {N} {A} core s (say.Learned nogood how lits cover) e =
+    (nogood ≡ length s.nogoods)
+    × (((cover ≡ []) × (e ≡ Learn how lits)) ⊎ ((how ≡ Justified) × ((atoms : List A) × ArePatternsOf core s cover atoms × (e ≡ Justify atoms lits))))
 Says core s (say.Back level) e = e ≡ Back level
 Says core s (say.Wide atom count) e = ⊥
 Says core s (say.Shown atoms) e = e ≡ Show atoms

@@ -6,6 +6,7 @@ use Rattle.search_theory.specs.Nogoods.{Nogood}
 use Rattle.search_theory.specs.Instances.{Plain, Rules, IsExtension, IsAnswerUnder}
 use Rattle.search_theory.specs.Tables.{Made, nogoods_of}
 use Rattle.search_theory.specs.States.{BodyOf, Phase, Free, MustLearn, Found, MustStrike, MustJump, Over, State, IsName, truth, Agrees, WasFound, AreUserAtoms, IsOpen, IsSound, IsSettled, IsFull, AreTrueUserAtoms, IsSetOf}
+use Rattle.search_theory.specs.Covers.{IsCover, MayJustify}
 use Rattle.search_theory.specs.Events.{Event, Close, Strike, Learn, Back, How, Decisions, Enumerated, Show, Pass, MayLearn, IsNew, Allowed}
 use Rattle.search_theory.specs.Journals.{replay, Legal, IsFinished}
 
@@ -78,6 +79,12 @@ LearnedIsSound N A K =
     (core : Rules N A K) (listed : List (List A)) (journal : List (Event A K)) → Legal core listed journal
     → (how : How) (ls : List Lit) → MayLearn core (replay core journal) how ls → IsSound core (replay core journal) ls
 
+-- a nogood that may be justified is sound
+abbrev pub JustifiedIsSound : (N A K : Type 0) → Type 0
+JustifiedIsSound N A K =
+    (core : Rules N A K) (listed : List (List A)) (journal : List (Event A K)) → Legal core listed journal
+    → (atoms : List A) (ls : List Lit) → MayJustify core (replay core journal) atoms ls → IsSound core (replay core journal) ls
+
 -- ---- sets
 
 -- a state in which a set may be shown or passed has a core answer set under the numbers given, whose user atoms are that set
@@ -133,6 +140,13 @@ ClosedIsNoProof N A K =
     → (first_level (State.stack (replay core (Close x ∷ journal))) x ≡ level_of (State.stack (replay core journal)) + 1)
     × (chosen (State.stack (replay core (Close x ∷ journal))) ≡ chosen (State.stack (replay core journal)))
 
+-- a cover has no fact: none of its atoms is the head of a plain core instance without a body
+abbrev pub FactsAreNotCovered : (N A K : Type 0) → Type 0
+FactsAreNotCovered N A K =
+    (core : Rules N A K) (listed : List (List A)) (journal : List (Event A K)) → Legal core listed journal
+    → (m : K) (a : A) → core.instance_of (State.numbers (replay core journal)) m ≡ Some (record { kind = Plain a; pos = []; neg = [] })
+    → (atoms : List A) (lits : List Lit) → IsCover core (replay core journal) atoms lits → ¬ (a ∈ atoms)
+
 -- no atom that is must-be-true is shown or passed: each atom of the set is true, and no atom is must-be-true
 abbrev pub MustBeIsNotShown : (N A K : Type 0) → Type 0
 MustBeIsNotShown N A K =
@@ -163,6 +177,11 @@ abbrev pub LearnedIsNew : (N A K : Type 0) → Type 0
 LearnedIsNew N A K =
     (core : Rules N A K) (listed : List (List A)) (journal : List (Event A K)) → Legal core listed journal → NoneEmpty (State.nogoods (replay core journal))
     → (how : How) (ls : List Lit) → MayLearn core (replay core journal) how ls → IsNew (State.nogoods (replay core journal)) ls
+
+-- a nogood that may be justified is a superset of no earlier nogood
+abbrev pub JustifiedIsNew : (N A K : Type 0) → Type 0
+JustifiedIsNew N A K =
+    (core : Rules N A K) (s : State N A K) (atoms : List A) (ls : List Lit) → MayJustify core s atoms ls → IsNew s.nogoods ls
 
 -- what may come in this phase, where something in particular has to
 abbrev pub GoesOn : {N A K : Type 0} → Rules N A K → List (List A) → State N A K → Phase → Type 0

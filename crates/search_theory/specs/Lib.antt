@@ -3,6 +3,7 @@ pub mod Nogoods
 pub mod Instances
 pub mod Tables
 pub mod States
+pub mod Covers
 pub mod Events
 pub mod Journals
 pub mod Laws

@@ -7,3 +7,4 @@ pub mod Operations
 pub mod TermInduction
 pub mod Outcomes
 pub mod Meeting
+pub mod NodeValues

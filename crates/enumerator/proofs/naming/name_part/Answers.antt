@@ -33,3 +33,14 @@ returns-in-TooLarge-clause-answer g c = part_large c.args.search.now c.resolve.n
 pub returns-in_ok-id-in-Atom-clause-answer : goal.returns-in_ok-id-in-Atom-clause-answer
 returns-in_ok-id-in-Atom-clause-answer g c = part_name c.args.search.now c.resolve.new.self c.note_terms.new.search c.args.rule c.args.part _ c.requires.still c.in-Ok.ensures.answer c.name_known.new.search
     c.in-Atom.pred c.in-Atom.args c.in_ok-id-in-Atom.id c.in-Atom.is c.in_ok-note_terms.ensures.nodes c.in_ok-id-in-Atom.ensures.known
+
+pub returns-in-TooLarge-clause-names : goal.returns-in-TooLarge-clause-names
+returns-in-TooLarge-clause-names g c =
+    let n = nodes_more c.args.search.now c.resolve.new.self (g.T.Trace.journal c.args.trace.now) c.requires.still c.in-Ok.ensures.more in
+    names_on c.args.search.now c.resolve.new.self c.note_terms.new.search _ _ _ n c.in_ok-note_terms.ensures.names
+
+pub returns-in_ok-id-in-Atom-clause-names : goal.returns-in_ok-id-in-Atom-clause-names
+returns-in_ok-id-in-Atom-clause-names g c =
+    let n = nodes_more c.args.search.now c.resolve.new.self (g.T.Trace.journal c.args.trace.now) c.requires.still c.in-Ok.ensures.more in
+    let all = names_on c.args.search.now c.resolve.new.self c.note_terms.new.search _ _ _ n c.in_ok-note_terms.ensures.names in
+    names_on c.args.search.now c.note_terms.new.search c.name_known.new.search _ _ _ all c.in_ok-id-in-Atom.ensures.names

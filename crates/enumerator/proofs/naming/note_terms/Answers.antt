@@ -1,5 +1,5 @@
 use Rattle.std.proofs.lemmas.Result.{err_from_is_err_and}
-use Rattle.enumerator.proofs.NamesCome.{names_none, names_on, names_fault}
+use Rattle.enumerator.proofs.NamesCome.{names_fault}
 use Rattle.enumerator.proofs.naming.note_terms.Goals as goal
 
 pub returns-in_err-note_next-clause-err : goal.returns-in_err-note_next-clause-err

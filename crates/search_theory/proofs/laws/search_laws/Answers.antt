@@ -1,9 +1,10 @@
 use Rattle.search_theory.proofs.laws.search_laws.Goals as goal
+use Rattle.search_theory.proofs.Covers.{justified_is_new}
 use Rattle.search_theory.proofs.Phases.{learned_is_new, what_must_come_may}
 use Rattle.search_theory.proofs.FoundOnce.{found_is_new, found_are_answer_sets}
 use Rattle.search_theory.proofs.Since.{must_be_is_since_closed}
 use Rattle.search_theory.proofs.Missed.{none_is_missed}
-use Rattle.search_theory.proofs.LawProofs.{levels_are_told, values_follow, settled_is_all, closed_is_all, nogoods_are_sound, sound_stays, learned_is_sound, full_is_answer_set, shown_once, shown_is_not_listed}
+use Rattle.search_theory.proofs.LawProofs.{levels_are_told, values_follow, settled_is_all, closed_is_all, nogoods_are_sound, sound_stays, learned_is_sound, justified_is_sound, full_is_answer_set, shown_once, shown_is_not_listed}
 
 pub returns-clause-values_follow : goal.returns-clause-values_follow
 returns-clause-values_follow g c = values_follow
@@ -52,3 +53,9 @@ returns-clause-levels_are_told g c = levels_are_told
 
 pub returns-clause-found_are_answer_sets : goal.returns-clause-found_are_answer_sets
 returns-clause-found_are_answer_sets g c = found_are_answer_sets
+
+pub returns-clause-justified_is_sound : goal.returns-clause-justified_is_sound
+returns-clause-justified_is_sound g c = justified_is_sound
+
+pub returns-clause-justified_is_new : goal.returns-clause-justified_is_new
+returns-clause-justified_is_new g c = justified_is_new
