@@ -11,7 +11,7 @@ use Rattle.core_rules.specs.declared.rules.CoreAggregate.{CoreAggregate}
 use Rattle.core_rules.specs.declared.rules.Core.{Core}
 use Rattle.core_rules.specs.CoreForm.{IsCoreForm, IsRuleForm, MayStand, arity_of, IsNoTotal, IsFitting}
 use Rattle.core_rules.specs.CoreForm as form
-use Rattle.search_theory.specs.Instances.{Instance}
+use Rattle.search_values.specs.Instances.{Instance}
 use Rattle.asp_meaning.specs.declared.value.Value.{Value}
 use Rattle.asp_meaning.specs.Terms.{all_of, before}
 use Rattle.core_meaning.specs.Terms.{Binding, eval, eval_all}

@@ -3,7 +3,7 @@ use Rattle.std.proofs.Common.{◌≡◌, List, [], ◌∷◌, ◌++◌, refl, sy
 use Rattle.std.specs.Prelude.{Option, Some, None}
 use Rattle.lists.specs.Lists.{◌∈◌}
 use Rattle.lists.proofs.ListLemmas.{∈-append_cases}
-use Rattle.search_theory.specs.Instances.{Kind, Plain, Choice, Constraint, Instance, IsHead}
+use Rattle.search_values.specs.Instances.{Kind, Plain, Choice, Constraint, Instance, IsHead}
 use Rattle.core_meaning.specs.Atoms.{GroundAtom, User, Domain, Member, Total}
 use Rattle.aggregate_laws.specs.Rules.{IsHeadAtom, IsBodyAtom, AreRules}
 use Rattle.asp_meaning.specs.Atoms.{Atom}

@@ -13,8 +13,8 @@ use Rattle.core_rules.specs.declared.rules.CoreAggregate.{CoreAggregate}
 use Rattle.core_rules.specs.declared.rules.Core.{Core}
 use Rattle.core_rules.specs.CoreForm.{IsCoreForm, IsRuleForm, IsNoTotal}
 use Rattle.core_rules.specs.CoreForm as form
-use Rattle.search_theory.specs.Instances.{Kind, Instance, IsHead, IsFounded}
-use Rattle.search_theory.proofs.Basics.{get_in}
+use Rattle.search_values.specs.Instances.{Kind, Instance, IsHead, IsFounded}
+use Rattle.search_values.proofs.Basics.{get_in}
 use Rattle.asp_meaning.specs.declared.value.Value.{Value}
 use Rattle.asp_meaning.specs.Terms.{all_of, before}
 use Rattle.core_meaning.specs.Terms.{Binding, eval_all}

@@ -2,8 +2,8 @@
 use Rattle.std.proofs.Common.{◌≡◌, ◌⊎◌, Bool, true, false, List, [], ◌∷◌, refl, sym, ◌∙◌, subst, inl, inr}
 use Rattle.std.specs.Prelude.{Option, Some}
 use Rattle.lists.specs.Lists.{◌∈◌}
-use Rattle.search_theory.specs.Instances.{Plain, Instance, IsHead, KindHolds, body_holds, IsFounded}
-use Rattle.search_theory.proofs.Basics.{BodyParts, body_parts, body_from}
+use Rattle.search_values.specs.Instances.{Plain, Instance, IsHead, KindHolds, body_holds, IsFounded}
+use Rattle.search_values.proofs.Basics.{BodyParts, body_parts, body_from}
 use Rattle.aggregate_laws.specs.Rules.{IsFoundedSet}
 use Rattle.aggregate_laws.proofs.Sameness.{Decides, decide_member}
 

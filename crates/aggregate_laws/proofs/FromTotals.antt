@@ -4,8 +4,8 @@ use Rattle.std.specs.Prelude.{Some, nat_le, pos, ◌-ℤ◌}
 use Rattle.lists.specs.Lists.{◌∈◌, HasNoRepeats}
 use Rattle.lists.proofs.ListLemmas.{∈-append_left, ∈-append_right, ∈-append_cases}
 use Rattle.core_rules.specs.declared.rules.CoreAggregate.{CoreAggregate}
-use Rattle.search_theory.specs.Instances.{Kind, Plain, Choice, Constraint, Instance, IsHead, KindHolds, body_holds}
-use Rattle.search_theory.proofs.Basics.{bool_cases, BodyParts, body_parts}
+use Rattle.search_values.specs.Instances.{Kind, Plain, Choice, Constraint, Instance, IsHead, KindHolds, body_holds}
+use Rattle.search_values.proofs.Basics.{bool_cases, BodyParts, body_parts}
 use Rattle.asp_meaning.specs.declared.value.Value.{Value}
 use Rattle.asp_meaning.specs.declared.value.Value.TheVariants as value
 use Rattle.core_meaning.specs.Atoms.{GroundAtom, User, Domain, Member, Total, Grid, Reach, Above}
@@ -16,7 +16,7 @@ use Rattle.aggregate_laws.specs.Rules.{MakerOf, ByRule, ByStep, instance_of, Num
 use Rattle.aggregate_laws.proofs.Places.{all1, all2}
 use Rattle.asp_meaning.specs.Atoms.{Atom}
 use Rattle.core_meaning.specs.Steps.{plain}
-use Rattle.search_theory.proofs.Basics.{and_left, and_right, and_intro}
+use Rattle.search_values.proofs.Basics.{and_left, and_right, and_intro}
 use Rattle.aggregate_laws.specs.TotalsInBodies.{NeededTotal, DomainInstance, ElementInstance, GroundProgram, Meets, sum_sizes, total_of_tuples, HasTotal, RuleWithTotals, rule_with_totals, IsAnswerSetWithTotals, CoreMaker, FromRule, FromDomain, FromElement, user_atoms, total_atoms, user_kind, core_rule, core_domain, core_element, core_rules, AllCome, HasDomains, InDomain, enters, IsListed, NotRecursive}
 use Rattle.aggregate_laws.proofs.Derivable.{Derivable, by, derivable, derivable_true, founded_by, closed_at}
 use Rattle.aggregate_laws.proofs.Sums.{SumsTo, none, skip, add, full_sum, sum_most}

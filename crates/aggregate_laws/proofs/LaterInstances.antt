@@ -3,8 +3,8 @@ use Rattle.std.proofs.Common.{◌≡◌, ℕ, suc, zero, ◌⊎◌, Bool, true, 
 use Rattle.std.specs.Prelude.{Option, Some, None, slice_get}
 use Rattle.lists.specs.Lists.{◌∈◌, HasNoRepeats}
 use Rattle.core_rules.specs.declared.rules.CoreAggregate.{CoreAggregate}
-use Rattle.search_theory.specs.Instances.{Instance}
-use Rattle.search_theory.proofs.Basics.{get_in, get_left}
+use Rattle.search_values.specs.Instances.{Instance}
+use Rattle.search_values.proofs.Basics.{get_in, get_left}
 use Rattle.asp_meaning.specs.declared.value.Value.{Value}
 use Rattle.core_meaning.specs.Atoms.{GroundAtom, Member}
 use Rattle.core_meaning.specs.Numberings.{Numbering, ExtendsFor}

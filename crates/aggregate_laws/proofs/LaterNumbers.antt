@@ -4,7 +4,7 @@ use Rattle.std.specs.Prelude.{Option}
 use Rattle.lists.specs.Lists.{◌∈◌, HasNoRepeats}
 use Rattle.lists.proofs.ListLemmas.{∈-append_left, ∈-append_right, ∈-append_cases}
 use Rattle.core_rules.specs.declared.rules.CoreAggregate.{CoreAggregate}
-use Rattle.search_theory.specs.Instances.{Instance}
+use Rattle.search_values.specs.Instances.{Instance}
 use Rattle.asp_meaning.specs.declared.value.Value.{Value}
 use Rattle.core_meaning.specs.Atoms.{GroundAtom, User, Domain, Member, Total, Grid, Reach, Above}
 use Rattle.core_meaning.specs.Numberings.{Numbering, NumbersAll, adds}

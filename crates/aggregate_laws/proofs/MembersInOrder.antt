@@ -4,8 +4,8 @@ use Rattle.std.specs.Prelude.{Option, Some, nat_le, slice_get, pos, ◌-ℤ◌}
 use Rattle.lists.specs.Lists.{◌∈◌}
 use Rattle.core_rules.specs.declared.rules.CoreAggregate.{CoreAggregate}
 use Rattle.core_rules.specs.declared.rules.Core.{Core}
-use Rattle.search_theory.specs.Instances.{Instance, IsOrdered}
-use Rattle.search_theory.proofs.Basics.{body_from, bool_cases, get_in}
+use Rattle.search_values.specs.Instances.{Instance, IsOrdered}
+use Rattle.search_values.proofs.Basics.{body_from, bool_cases, get_in}
 use Rattle.asp_meaning.specs.declared.value.Value.{Value}
 use Rattle.asp_meaning.specs.declared.value.Value.TheVariants as value
 use Rattle.core_meaning.specs.Terms.{Binding}

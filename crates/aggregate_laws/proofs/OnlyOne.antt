@@ -4,7 +4,7 @@ use Rattle.std.specs.Prelude.{Some}
 use Rattle.lists.specs.Lists.{◌∈◌}
 use Rattle.lists.proofs.ListLemmas.{∈-append_cases}
 use Rattle.core_rules.specs.declared.rules.CoreAggregate.{CoreAggregate}
-use Rattle.search_theory.specs.Instances.{Kind, Plain, Choice, Constraint, Instance, IsHead}
+use Rattle.search_values.specs.Instances.{Kind, Plain, Choice, Constraint, Instance, IsHead}
 use Rattle.asp_meaning.specs.declared.value.Value.{Value}
 use Rattle.core_meaning.specs.Atoms.{GroundAtom, User, Domain, Member, Total, Grid, Reach, Above}
 use Rattle.core_meaning.specs.Numberings.{Numbering}

@@ -3,7 +3,7 @@ use Rattle.std.proofs.Common.{◌≡◌, ℕ, suc, zero, ◌+◌, ◌-◌, ◌�
 use Rattle.std.specs.Prelude.{Option, Some, None, slice_get}
 use Rattle.lists.specs.Lists.{◌∈◌, HasNoRepeats}
 use Rattle.aggregate_laws.proofs.Sums.{SumsTo, none, skip, add}
-use Rattle.search_theory.proofs.Basics.{bool_cases, get_in}
+use Rattle.search_values.proofs.Basics.{bool_cases, get_in}
 use Rattle.aggregate_laws.proofs.Sameness.{Decides, decide_member}
 use Rattle.aggregate_laws.specs.TotalsInBodies.{sum_sizes}
 

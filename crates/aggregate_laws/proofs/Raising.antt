@@ -8,7 +8,7 @@ use Rattle.core_meaning.specs.Atoms.{GroundAtom, User, Member}
 use Rattle.core_meaning.specs.Numberings.{Numbering}
 use Rattle.aggregate_laws.specs.Rules.{NumbersOnce, IsAnswerSetOf}
 use Rattle.asp_meaning.specs.Atoms.{Atom}
-use Rattle.search_theory.proofs.Basics.{and_left, and_right, and_intro}
+use Rattle.search_values.proofs.Basics.{and_left, and_right, and_intro}
 use Rattle.aggregate_laws.specs.TotalsInBodies.{GroundProgram, IsAnswerSetWithTotals, user_atoms, core_rules, HasDomains, IsListed, NotRecursive}
 use Rattle.aggregate_laws.proofs.Sameness.{decide_list, decide_value}
 use Rattle.aggregate_laws.proofs.CoreOfTotals.{are_rules}

@@ -4,8 +4,8 @@ use Rattle.std.specs.Prelude.{Option, Some, nat_le, pos, ◌-ℤ◌}
 use Rattle.lists.specs.Lists.{◌∈◌}
 use Rattle.lists.proofs.ListLemmas.{∈-append_left, ∈-append_right}
 use Rattle.core_rules.specs.declared.rules.CoreAggregate.{CoreAggregate}
-use Rattle.search_theory.specs.Instances.{Kind, Plain, Choice, Constraint, Instance, IsHead, KindHolds, body_holds}
-use Rattle.search_theory.proofs.Basics.{BodyParts, body_parts}
+use Rattle.search_values.specs.Instances.{Kind, Plain, Choice, Constraint, Instance, IsHead, KindHolds, body_holds}
+use Rattle.search_values.proofs.Basics.{BodyParts, body_parts}
 use Rattle.asp_meaning.specs.declared.value.Value.{Value}
 use Rattle.asp_meaning.specs.declared.value.Value.TheVariants as value
 use Rattle.core_meaning.specs.Atoms.{GroundAtom, User, Domain, Member, Total, Grid, Reach, Above}
@@ -19,7 +19,7 @@ use Rattle.aggregate_laws.proofs.Sums.{SumsTo, none, skip, add}
 use Rattle.aggregate_laws.proofs.Picking.{path_map, path_index, path_moves, decide_sum}
 use Rattle.aggregate_laws.proofs.Totals.{inst, StepIs, is_zero, is_skip, is_add, is_reach, is_above, is_total, StepBy, by_rule, by_zero, by_skip, by_add, by_reach, by_above, by_total, step_is, step_by, step_not_base, reach_of, above_less}
 use Rattle.aggregate_laws.proofs.Sameness.{decide_list, decide_value, decide_ground_atom}
-use Rattle.search_theory.proofs.Basics.{and_left, and_right, and_intro}
+use Rattle.search_values.proofs.Basics.{and_left, and_right, and_intro}
 use Rattle.aggregate_laws.proofs.Rows.{rows, in_rows}
 
 -- whether a decision is yes

@@ -3,8 +3,8 @@ use Rattle.std.proofs.Common.{◌≡◌, Bool, true, List, [], ◌∷◌, refl, 
 use Rattle.std.specs.Prelude.{Option}
 use Rattle.lists.proofs.ListLemmas.{SameSet-refl}
 use Rattle.core_rules.specs.declared.rules.CoreAggregate.{CoreAggregate}
-use Rattle.search_theory.specs.Instances.{Instance, IsHead, KindHolds, body_holds, IsFounded}
-use Rattle.search_theory.proofs.Basics.{body_parts, body_from}
+use Rattle.search_values.specs.Instances.{Instance, IsHead, KindHolds, body_holds, IsFounded}
+use Rattle.search_values.proofs.Basics.{body_parts, body_from}
 use Rattle.core_meaning.specs.Atoms.{GroundAtom}
 use Rattle.core_meaning.specs.Numberings.{Numbering}
 use Rattle.aggregate_laws.specs.Rules.{ByRule, ByStep, instance_of, IsFoundedSet, SameInstance, Covers}

@@ -4,8 +4,8 @@ use Rattle.std.specs.Prelude.{Option, Some}
 use Rattle.lists.specs.Lists.{◌∈◌, HasNoRepeats}
 use Rattle.lists.proofs.ListLemmas.{∈-append_left, ∈-append_right, ∈-append_cases}
 use Rattle.core_rules.specs.declared.rules.CoreAggregate.{CoreAggregate}
-use Rattle.search_theory.specs.Instances.{Kind, Plain, Choice, Constraint, Instance, IsHead, KindHolds, body_holds, IsFounded}
-use Rattle.search_theory.proofs.Basics.{BodyParts, body_parts}
+use Rattle.search_values.specs.Instances.{Kind, Plain, Choice, Constraint, Instance, IsHead, KindHolds, body_holds, IsFounded}
+use Rattle.search_values.proofs.Basics.{BodyParts, body_parts}
 use Rattle.asp_meaning.specs.declared.value.Value.{Value}
 use Rattle.core_meaning.specs.Atoms.{GroundAtom, User, Domain, Member, Total, Grid, Reach, Above}
 use Rattle.core_meaning.specs.Numberings.{Numbering, adds}

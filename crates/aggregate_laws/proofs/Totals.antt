@@ -3,8 +3,8 @@ use Rattle.std.proofs.Common.{◌≡◌, ℕ, suc, zero, ◌+◌, ◌≤◌, ◌
 use Rattle.std.specs.Prelude.{Option, Some, None, nat_le, slice_get, pos, ◌-ℤ◌}
 use Rattle.lists.specs.Lists.{◌∈◌}
 use Rattle.core_rules.specs.declared.rules.CoreAggregate.{CoreAggregate}
-use Rattle.search_theory.specs.Instances.{Plain, Instance, IsHead}
-use Rattle.search_theory.proofs.Basics.{bool_cases}
+use Rattle.search_values.specs.Instances.{Plain, Instance, IsHead}
+use Rattle.search_values.proofs.Basics.{bool_cases}
 use Rattle.asp_meaning.specs.declared.value.Value.{Value}
 use Rattle.asp_meaning.specs.declared.value.Value.TheVariants as value
 use Rattle.core_meaning.specs.Atoms.{GroundAtom, Domain, Member, Total, Grid, Reach, Above}

@@ -4,7 +4,7 @@ use Rattle.lists.specs.Lists.{◌∈◌, HasNoRepeats}
 use Rattle.core_rules.specs.declared.rules.CoreAggregate.{CoreAggregate}
 use Rattle.core_rules.specs.declared.rules.Core.{Core}
 use Rattle.core_rules.specs.CoreForm.{IsCoreForm}
-use Rattle.search_theory.specs.Instances.{Instance, IsOrdered}
+use Rattle.search_values.specs.Instances.{Instance, IsOrdered}
 use Rattle.asp_meaning.specs.declared.value.Value.{Value}
 use Rattle.asp_meaning.specs.declared.value.Value.TheVariants as value
 use Rattle.asp_meaning.specs.Atoms.{Atom}

@@ -3,7 +3,7 @@ use Rattle.std.specs.Prelude.{◌≡◌, ◌≤◌, ℕ, Bool, true, List, Optio
 use Rattle.lists.specs.Lists.{◌∈◌, HasNoRepeats, SameSet}
 use Rattle.core_rules.specs.declared.rules.CoreAggregate.{CoreAggregate}
 use Rattle.core_rules.specs.declared.rules.Core.{Core}
-use Rattle.search_theory.specs.Instances.{Instance, IsHead, KindHolds, body_holds, IsFounded}
+use Rattle.search_values.specs.Instances.{Instance, IsHead, KindHolds, body_holds, IsFounded}
 use Rattle.asp_meaning.specs.declared.value.Value.{Value}
 use Rattle.core_meaning.specs.Terms.{Binding}
 use Rattle.core_meaning.specs.Instances.{rule_instance}

@@ -3,7 +3,7 @@
 use Rattle.std.specs.Prelude.{◌≡◌, ◌++◌, ◌+◌, ◌≤◌, ◌<◌, ◌-ℤ◌, ℕ, pos, Bool, true, false, List, [], ◌∷◌, Option, Some, None}
 use Rattle.lists.specs.Lists.{◌∈◌, HasNoRepeats}
 use Rattle.core_rules.specs.declared.rules.CoreAggregate.{CoreAggregate}
-use Rattle.search_theory.specs.Instances.{Kind, Plain, Choice, Constraint, Instance, IsHead}
+use Rattle.search_values.specs.Instances.{Kind, Plain, Choice, Constraint, Instance, IsHead}
 use Rattle.asp_meaning.specs.declared.value.Value.{Value}
 use Rattle.asp_meaning.specs.declared.value.Value.TheVariants as value
 use Rattle.asp_meaning.specs.Atoms.{Atom}

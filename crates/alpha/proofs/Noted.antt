@@ -8,7 +8,7 @@ use Rattle.asp_syntax.specs.declared.tree.Statement.{Statement}
 use Rattle.search_theory.specs.States.{State}
 use Rattle.search_theory.specs.Journals.{Says, SaysAll, replay}
 use Rattle.search_theory.specs.Events.{happens}
-use Rattle.search_theory.specs.Instances.{Rules}
+use Rattle.search_values.specs.Instances.{Rules}
 use Rattle.core_meaning.specs.Atoms.{GroundAtom}
 use Rattle.search_rules.specs.Tests.{Maker}
 use Rattle.search_rules.specs.Rules.{Numbers, Reached}

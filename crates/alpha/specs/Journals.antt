@@ -6,7 +6,7 @@ use Rattle.asp_syntax.specs.declared.tree.Statement.{Statement}
 use Rattle.core_rules.specs.declared.rules.Core.{Core}
 use Rattle.choice_rewrite.specs.Splitting.{singles_of}
 use Rattle.rewriting.specs.CoreRules.{core_of}
-use Rattle.search_theory.specs.Instances.{Rules}
+use Rattle.search_values.specs.Instances.{Rules}
 use Rattle.search_theory.specs.Journals.{Legal, SaysAll, replay}
 use Rattle.core_meaning.specs.Atoms.{GroundAtom}
 use Rattle.search_rules.specs.Tests.{Maker}

@@ -337,15 +337,24 @@ impl Trace for MemTrace {
 pub struct NoTrace;
 
 impl Trace for NoTrace {
+    ghost use Rattle.alpha_outside.specs.Outside.{Begins, Notes};
+    ghost use Rattle.std.specs.Prelude.{Ok};
+
     ghost journal = { λ _. None };
 
     ghost faults = { λ _. 0 };
 
-    fn begin(&mut self, _name: &[u8]) -> Result<(), TraceStop> {
+    fn begin(&mut self, name: &[u8]) -> Result<(), TraceStop>
+        ensures begins { Begins name.now None None 0 0 result }
+        ensures never_fails { result ≡ Ok tt }
+    {
         Ok(())
     }
 
-    fn note(&mut self, _event: &Event) -> Result<(), TraceStop> {
+    fn note(&mut self, event: &Event) -> Result<(), TraceStop>
+        ensures notes { Notes event.now None None 0 0 result }
+        ensures never_fails { result ≡ Ok tt }
+    {
         Ok(())
     }
 }

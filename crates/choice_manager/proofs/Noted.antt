@@ -4,8 +4,8 @@ use Rattle.std.proofs.lemmas.List.{take_more}
 use Rattle.std.proofs.lemmas.Option.{same_Some}
 use Rattle.lists.specs.Lists.{◌∈◌, Each}
 use Rattle.lists.proofs.ListLemmas.{∈-append_cases}
-use Rattle.search_theory.specs.declared.entry.Entry.{Entry}
-use Rattle.search_theory.proofs.Basics.{get_in}
+use Rattle.search_values.specs.declared.entry.Entry.{Entry}
+use Rattle.search_values.proofs.Basics.{get_in}
 use Rattle.atom_pool.specs.declared.instances.Made.{Made}
 use Rattle.choice_manager.specs.Active.{IsActiveBody, ArePlaced, NoneActiveIn}
 

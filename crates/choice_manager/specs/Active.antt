@@ -2,8 +2,8 @@
 use Rattle.std.specs.Prelude.{◌≡◌, ℕ, ◌<◌, ◌⊎◌, true, List, [], ◌∷◌, ◌++◌, length, Option, Some, None, slice_get}
 use Rattle.lists.specs.Lists.{◌∈◌, Each}
 use Rattle.alpha_outside.specs.declared.literal.Value.TheVariants.{True, MustBe}
-use Rattle.search_theory.specs.declared.entry.Entry.{Entry}
-use Rattle.search_theory.specs.Values.{value_of, lit, Holds}
+use Rattle.search_values.specs.declared.entry.Entry.{Entry}
+use Rattle.search_values.specs.Values.{value_of, lit, Holds}
 use Rattle.atom_pool.specs.declared.instances.Made.{Made}
 
 -- the atom is the instance's body atom and is unassigned or must-be-true, all positive atoms are true, and no negative one is true or

@@ -4,7 +4,7 @@ ghost use Rattle.std.specs.Prelude.{◌≡◌, ◌<◌, ◌⊎◌, ℕ, None, So
 ghost use Rattle.lists.specs.Lists.{Each};
 ghost use Rattle.alpha_outside.specs.declared.literal.Value.{Value};
 ghost use Rattle.alpha_outside.specs.declared.literal.Value.TheVariants.{True, MustBe};
-ghost use Rattle.search_theory.specs.Values.{Holds, lit, value_of, is_up as up_of};
+ghost use Rattle.search_values.specs.Values.{Holds, lit, value_of, is_up as up_of};
 ghost use Rattle.choice_manager.specs.Active.{IsActiveBody};
 
 use alpha_outside::{AtomId, Value};

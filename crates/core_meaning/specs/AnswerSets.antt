@@ -2,7 +2,7 @@
 use Rattle.std.specs.Prelude.{◌≡◌, ◌↔◌, ℕ, Bool, true, List, Option, Some}
 use Rattle.lists.specs.Lists.{◌∈◌}
 use Rattle.core_rules.specs.declared.rules.Core.{Core}
-use Rattle.search_theory.specs.Instances.{Instance, KindHolds, body_holds, IsFounded}
+use Rattle.search_values.specs.Instances.{Instance, KindHolds, body_holds, IsFounded}
 use Rattle.asp_meaning.specs.Atoms.{Atom}
 use Rattle.core_meaning.specs.Terms.{Binding}
 use Rattle.core_meaning.specs.Atoms.{GroundAtom, User}

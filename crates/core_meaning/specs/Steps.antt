@@ -1,7 +1,7 @@
 -- The steps that add up an aggregate, key by key and on each side.
 use Rattle.std.specs.Prelude.{◌+◌, ℕ, suc, zero, pos, ◌-ℤ◌, Bool, true, false, nat_le, List, [], ◌∷◌, Option, Some, None, slice_get}
 use Rattle.core_rules.specs.declared.rules.CoreAggregate.{CoreAggregate}
-use Rattle.search_theory.specs.Instances.{Plain, Instance}
+use Rattle.search_values.specs.Instances.{Plain, Instance}
 use Rattle.asp_meaning.specs.declared.value.Value.{Value}
 use Rattle.asp_meaning.specs.declared.value.Value.TheVariants as value
 use Rattle.core_meaning.specs.Atoms.{GroundAtom}

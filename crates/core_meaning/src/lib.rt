@@ -1,7 +1,7 @@
 //! What core rules mean: their instances, the steps that add up aggregates, numberings, and core answer sets.
 //!
 //! This crate has definitions alone, in `specs/`, over all cores. They stand on the values of `asp_meaning`, with integers without
-//! bound, and on the instances and core answer sets of `search_theory`.
+//! bound, and on the instances and core answer sets of `search_values`.
 //!
 //! | file | defines |
 //! |---|---|

@@ -6,12 +6,12 @@ use Rattle.lists.proofs.ListLemmas.{Each-at}
 use Rattle.asp_meaning.specs.Atoms.{Atom}
 use Rattle.core_meaning.specs.Terms.{eval}
 use Rattle.core_meaning.specs.Atoms.{GroundAtom, atom_under}
-use Rattle.search_theory.specs.declared.entry.Entry.{Entry}
-use Rattle.search_theory.specs.Values.{Value, Holds, lit, HasClosed, MustSinceClosed}
-use Rattle.search_theory.specs.Instances.{Instance}
+use Rattle.search_values.specs.declared.entry.Entry.{Entry}
+use Rattle.search_values.specs.Values.{Value, Holds, lit, HasClosed, MustSinceClosed}
+use Rattle.search_values.specs.Instances.{Instance}
 use Rattle.search_theory.specs.States.{IsName, IsUp, NoneActive, NoneDue, IsSettled}
 use Rattle.search_theory.specs.Events.{Put, Choose, Close, Allowed, NoneStuck}
-use Rattle.search_theory.proofs.Basics.{get_in}
+use Rattle.search_values.proofs.Basics.{get_in}
 use Rattle.search_theory.proofs.Central.{names_in}
 use Rattle.term_pool.specs.Nodes.{value_size, most_symbols}
 use Rattle.search_rules.specs.Tests.{Maker}

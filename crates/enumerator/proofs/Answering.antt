@@ -8,7 +8,7 @@ use Rattle.lists.proofs.ListLemmas.{Each-from, Each-append, concat-append}
 use Rattle.asp_meaning.specs.Output.{IsBraceLine}
 use Rattle.asp_laws.proofs.Readable.{one_line_for_the_same_set}
 use Rattle.core_rules.specs.declared.rules.Core.{Core}
-use Rattle.search_theory.specs.Instances.{Rules}
+use Rattle.search_values.specs.Instances.{Rules}
 use Rattle.search_theory.specs.States.{State}
 use Rattle.search_theory.specs.Events.{Event, NameTerm, NameAtom, NameBody, Number, Make, Put, Choose, Close, Strike, Learn, Justify, Back, Show, Pass}
 use Rattle.search_theory.specs.Journals.{replay, Legal, IsFinished}

@@ -4,11 +4,11 @@ use Rattle.std.specs.Prelude.{Option, Some, None, nat_eq, nat_le}
 use Rattle.lists.specs.Lists.{◌∈◌}
 use Rattle.alpha_outside.specs.declared.literal.Value.{Value}
 use Rattle.alpha_outside.specs.declared.literal.Lit.{Lit}
-use Rattle.search_theory.specs.declared.entry.Why.{Why}
-use Rattle.search_theory.specs.declared.entry.Why.TheVariants.{Given, Chosen, Closed}
-use Rattle.search_theory.specs.declared.entry.Entry.{Entry}
-use Rattle.search_theory.specs.Values.{is_up, lit, value_of, opened, level_of, back_to, first_level, all_at_0, chosen_with, chosen}
-use Rattle.search_theory.proofs.Basics.{value_cases, nat_eq-same}
+use Rattle.search_values.specs.declared.entry.Why.{Why}
+use Rattle.search_values.specs.declared.entry.Why.TheVariants.{Given, Chosen, Closed}
+use Rattle.search_values.specs.declared.entry.Entry.{Entry}
+use Rattle.search_values.specs.Values.{is_up, lit, value_of, opened, level_of, back_to, first_level, all_at_0, chosen_with, chosen}
+use Rattle.search_values.proofs.Basics.{value_cases, nat_eq-same}
 use Rattle.nogood_store.specs.Stored.{HasNoAtomTwice, atom_of}
 use Rattle.ground_search.specs.Searching.{jump_of, jump_by}
 

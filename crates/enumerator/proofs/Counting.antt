@@ -5,10 +5,10 @@ use Rattle.std.specs.List.{list_any}
 use Rattle.lists.specs.Lists.{◌∈◌, ◌⊆◌}
 use Rattle.lists.proofs.ListLemmas.{∈-append_left, ∈-append_right}
 use Rattle.alpha_outside.specs.declared.literal.Lit.{Lit}
-use Rattle.search_theory.specs.Values.{lit}
-use Rattle.search_theory.specs.Nogoods.{Nogood}
-use Rattle.search_theory.specs.Tables.{same_lit}
-use Rattle.search_theory.proofs.Basics.{nat_eq-true, nat_eq-same, and_left, and_right, and_intro, or_cases, or_left, or_right, any_to, any_from}
+use Rattle.search_values.specs.Values.{lit}
+use Rattle.search_values.specs.Nogoods.{Nogood}
+use Rattle.search_values.specs.Tables.{same_lit}
+use Rattle.search_values.proofs.Basics.{nat_eq-true, nat_eq-same, and_left, and_right, and_intro, or_cases, or_left, or_right, any_to, any_from}
 use Rattle.enumerator.specs.Measures.{id_count, candidates, has, all_in, is_empty, blocks, open_of, still_open}
 
 -- ---- literals in lists

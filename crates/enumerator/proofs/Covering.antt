@@ -9,9 +9,9 @@ use Rattle.core_rules.specs.declared.rules.CoreAggregate.{CoreAggregate}
 use Rattle.core_meaning.specs.Terms.{Binding}
 use Rattle.core_meaning.specs.Atoms.{GroundAtom, atom_under}
 use Rattle.core_meaning.specs.Instances.{kind_with, kind_under}
-use Rattle.search_theory.specs.Values.{False, Lit, lit, HasClosed, Holds}
-use Rattle.search_theory.specs.Instances.{Kind, Plain, Choice, Constraint, Instance, IsHead}
-use Rattle.search_theory.specs.Tables.{lits_of}
+use Rattle.search_values.specs.Values.{False, Lit, lit, HasClosed, Holds}
+use Rattle.search_values.specs.Instances.{Kind, Plain, Choice, Constraint, Instance, IsHead}
+use Rattle.search_values.specs.Tables.{lits_of}
 use Rattle.search_theory.specs.States.{Named, IsName}
 use Rattle.search_theory.specs.Covers.{IsBlocked, MayJustify}
 use Rattle.search_theory.specs.Covers as cover

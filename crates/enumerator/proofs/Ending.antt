@@ -6,14 +6,14 @@ use Rattle.lists.specs.Lists.{◌∈◌}
 use Rattle.lists.proofs.ListLemmas.{∈-append_cases}
 use Rattle.alpha_outside.specs.Outside as outside
 use Rattle.alpha_outside.specs.declared.literal.Lit.{Lit}
-use Rattle.search_theory.specs.declared.entry.Entry.{Entry}
-use Rattle.search_theory.specs.Values.{level_of, opened, chosen, all_at_0, HasClosed}
-use Rattle.search_theory.specs.Nogoods.{Nogood, IsStruck}
+use Rattle.search_values.specs.declared.entry.Entry.{Entry}
+use Rattle.search_values.specs.Values.{level_of, opened, chosen, all_at_0, HasClosed}
+use Rattle.search_values.specs.Nogoods.{Nogood, IsStruck}
 use Rattle.search_theory.specs.States as phase
 use Rattle.search_theory.specs.States.{State, Phase}
 use Rattle.search_theory.specs.Events.{How, Decisions, Enumerated, phase_struck, phase_learned, lits_at, lits_in}
 use Rattle.search_theory.specs.Journals.{replay}
-use Rattle.search_theory.proofs.Basics.{get_last, in_single}
+use Rattle.search_values.proofs.Basics.{get_last, in_single}
 use Rattle.ground_search.specs.Searching.{Searching, ids, state_of, jump_of}
 use Rattle.search_rules.specs.Rules.{Reached, search_rules}
 use Rattle.search_rules.specs.Faults.{IsTooLarge}

@@ -6,14 +6,14 @@ use Rattle.lists.proofs.ListLemmas.{∈-append_left, ∈-append_right}
 use Rattle.alpha_outside.specs.declared.literal.Value.{Value}
 use Rattle.alpha_outside.specs.declared.literal.Value.TheVariants.{True, MustBe, False}
 use Rattle.alpha_outside.specs.declared.literal.Lit.{Lit}
-use Rattle.search_theory.specs.declared.entry.Entry.{Entry}
-use Rattle.search_theory.specs.Values.{is_up, lit, value_of, Holds}
-use Rattle.search_theory.specs.Nogoods.{Nogood}
-use Rattle.search_theory.specs.Instances.{Kind, Plain, Choice, Constraint, Instance, Rules}
-use Rattle.search_theory.specs.Tables.{Made, BodyFits, lits_of, once, set_of, each_with, with_body, table_of}
+use Rattle.search_values.specs.declared.entry.Entry.{Entry}
+use Rattle.search_values.specs.Values.{is_up, lit, value_of, Holds}
+use Rattle.search_values.specs.Nogoods.{Nogood}
+use Rattle.search_values.specs.Instances.{Kind, Plain, Choice, Constraint, Instance, Rules}
+use Rattle.search_values.specs.Tables.{Made, BodyFits, lits_of, once, set_of, each_with, with_body, table_of}
 use Rattle.search_theory.specs.States.{AtomNode, Named, BodyOf, IsName, IsSettled, IsFull}
-use Rattle.search_theory.proofs.Basics.{get_in, value_cases, nat_eq-true}
-use Rattle.search_theory.proofs.Tables.{nogood, Clash, set_of-or_clash}
+use Rattle.search_values.proofs.Basics.{get_in, value_cases, nat_eq-true}
+use Rattle.search_values.proofs.Tables.{nogood, Clash, set_of-or_clash}
 use Rattle.search_theory.proofs.Stack.{Good}
 use Rattle.search_theory.proofs.Meaning.{OfAtom, OfBody, Known}
 use Rattle.search_theory.proofs.Central.{GoodMade, Valid, names_in}

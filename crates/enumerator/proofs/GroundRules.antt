@@ -17,8 +17,8 @@ use Rattle.core_rules.specs.declared.rules.Core.{Core}
 use Rattle.core_rules.specs.declared.rules.Test.{Test}
 use Rattle.core_rules.specs.Variables.{variables, variables_step, outside_arithmetic, outside_step, has_arithmetic, test_terms, head_variables, atom_variables, test_variables, variables_of, rule_variables}
 use Rattle.core_rules.specs.CoreForm.{MayStand, IsFitting, IsRuleForm}
-use Rattle.search_theory.specs.Instances.{Kind, Instance}
-use Rattle.search_theory.proofs.Basics.{get_in, and_left, nat_eq-true}
+use Rattle.search_values.specs.Instances.{Kind, Instance}
+use Rattle.search_values.proofs.Basics.{get_in, and_left, nat_eq-true}
 use Rattle.asp_meaning.specs.declared.value.Value.{Value}
 use Rattle.asp_meaning.specs.Atoms.{Atom}
 use Rattle.core_meaning.specs.Terms.{Binding, eval, eval_all, outcome}

@@ -13,14 +13,14 @@ use Rattle.alpha_outside.specs.Outside as outside
 use Rattle.alpha_outside.specs.Outside.{with_event}
 use Rattle.core_rules.specs.declared.rules.CoreRule.{CoreRule}
 use Rattle.core_meaning.specs.Atoms.{GroundAtom}
-use Rattle.search_theory.specs.Values.{lit, value_of, HasClosed, Holds}
-use Rattle.search_theory.specs.Nogoods.{Nogood}
+use Rattle.search_values.specs.Values.{lit, value_of, HasClosed, Holds}
+use Rattle.search_values.specs.Nogoods.{Nogood}
 use Rattle.search_theory.specs.States.{IsName}
-use Rattle.search_theory.specs.Tables.{lits_of}
+use Rattle.search_values.specs.Tables.{lits_of}
 use Rattle.search_theory.specs.Events.{Justified, Justify}
 use Rattle.search_theory.specs.Laws.{NoneEmpty}
 use Rattle.search_theory.specs.Journals.{IsPatternOf}
-use Rattle.search_theory.proofs.Basics.{get_last}
+use Rattle.search_values.proofs.Basics.{get_last}
 use Rattle.search_theory.proofs.Covers.{justified_is_new}
 use Rattle.search_rules.specs.Rules.{search_rules, names_atom}
 use Rattle.ground_search.specs.Searching.{Searching, ids, state_of, terms_of}

@@ -8,11 +8,11 @@ use Rattle.alpha_outside.specs.declared.literal.Lit.{Lit}
 use Rattle.alpha_outside.specs.declared.event.Event.TheVariants as say
 use Rattle.alpha_outside.specs.Outside as outside
 use Rattle.alpha_outside.specs.Outside.{with_event}
-use Rattle.search_theory.specs.declared.entry.Why.{Why}
-use Rattle.search_theory.specs.declared.entry.Why.TheVariants.{Given, Chosen, Closed}
-use Rattle.search_theory.specs.declared.entry.Entry.{Entry}
-use Rattle.search_theory.specs.Values.{is_up, lit, value_of, opened, level_of, back_to, chosen_with, chosen, HasClosed, MustSinceClosed, Holds}
-use Rattle.search_theory.specs.Nogoods.{Nogood, IsStruck, IsLeft, Gives, Rises}
+use Rattle.search_values.specs.declared.entry.Why.{Why}
+use Rattle.search_values.specs.declared.entry.Why.TheVariants.{Given, Chosen, Closed}
+use Rattle.search_values.specs.declared.entry.Entry.{Entry}
+use Rattle.search_values.specs.Values.{is_up, lit, value_of, opened, level_of, back_to, chosen_with, chosen, HasClosed, MustSinceClosed, Holds}
+use Rattle.search_values.specs.Nogoods.{Nogood, IsStruck, IsLeft, Gives, Rises}
 use Rattle.search_theory.specs.States as phase
 use Rattle.search_theory.specs.States.{State, IsName, IsSettled, IsStuck}
 use Rattle.search_theory.specs.Events.{How, Decisions, Enumerated, Analysed, Justified, Strike, Learn, Back, happens, Allowed, MayLearn, IsNew, IsUnitAt, phase_learned}
@@ -20,7 +20,7 @@ use Rattle.search_theory.specs.Journals.{replay}
 use Rattle.search_theory.specs.Laws.{NoneEmpty}
 use Rattle.search_theory.proofs.Events.{legal_safe}
 use Rattle.search_theory.proofs.Fresh.{ChosenAreBodies, NewlyChosen, legal_newly, chosen_holds}
-use Rattle.search_theory.proofs.Jumps.{back_above, back_here}
+use Rattle.search_values.proofs.Levels.{back_above, back_here}
 use Rattle.search_theory.proofs.Phases.{PhaseLeads, legal_leads, learned_is_new}
 use Rattle.search_theory.proofs.Since.{must_be_is_since_closed}
 use Rattle.search_theory.proofs.Stack.{Good}

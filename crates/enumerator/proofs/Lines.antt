@@ -13,10 +13,10 @@ use Rattle.asp_laws.proofs.WholeLines.{lines_of_readable_atoms_are_whole}
 use Rattle.core_rules.specs.declared.rules.Core.{Core}
 use Rattle.core_meaning.specs.Atoms.{GroundAtom, User}
 use Rattle.core_meaning.specs.AnswerSets.{HasUserAtoms}
-use Rattle.search_theory.specs.Instances.{IsAnswerUnder}
+use Rattle.search_values.specs.Instances.{IsAnswerUnder}
 use Rattle.search_theory.specs.States.{AtomNode, Named, IsName, Names, AreUserAtoms}
 use Rattle.search_theory.specs.Laws.{NoneTwice}
-use Rattle.search_theory.proofs.Basics.{in_single}
+use Rattle.search_values.proofs.Basics.{in_single}
 use Rattle.search_theory.proofs.Central.{names_in}
 use Rattle.search_theory.proofs.Instances.{names_back}
 use Rattle.search_rules.specs.Rules.{Reached, search_rules}

@@ -5,12 +5,12 @@ use Rattle.std.specs.List.{list_any}
 use Rattle.std.proofs.lemmas.List.Folds.{list_any-append}
 use Rattle.alpha_outside.specs.declared.literal.Value.{Value}
 use Rattle.alpha_outside.specs.declared.literal.Value.TheVariants.{True, MustBe, False}
-use Rattle.search_theory.specs.declared.entry.Why.{Why}
-use Rattle.search_theory.specs.declared.entry.Entry.{Entry}
-use Rattle.search_theory.specs.Values.{value_of, entry_on}
-use Rattle.search_theory.specs.Nogoods.{Nogood, Gives}
-use Rattle.search_theory.specs.Tables.{Made}
-use Rattle.search_theory.proofs.Basics.{value_cases, nat_eq-same, bool_cases, any_to}
+use Rattle.search_values.specs.declared.entry.Why.{Why}
+use Rattle.search_values.specs.declared.entry.Entry.{Entry}
+use Rattle.search_values.specs.Values.{value_of, entry_on}
+use Rattle.search_values.specs.Nogoods.{Nogood, Gives}
+use Rattle.search_values.specs.Tables.{Made}
+use Rattle.search_values.proofs.Basics.{value_cases, nat_eq-same, bool_cases, any_to}
 use Rattle.core_rules.specs.declared.rules.Core.{Core}
 use Rattle.search_rules.specs.Tests.{Maker, same_maker}
 use Rattle.ground_search.specs.Searching.{Searching}

@@ -4,10 +4,10 @@ use Rattle.std.specs.Prelude.{Some, slice_get}
 use Rattle.std.proofs.lemmas.Option.{slice_get_within}
 use Rattle.lists.specs.Lists.{◌∈◌}
 use Rattle.core_meaning.specs.Atoms.{GroundAtom}
-use Rattle.search_theory.specs.declared.entry.Entry.{Entry}
-use Rattle.search_theory.specs.Values.{Value, value_of}
+use Rattle.search_values.specs.declared.entry.Entry.{Entry}
+use Rattle.search_values.specs.Values.{Value, value_of}
 use Rattle.search_theory.specs.States.{AtomNode, Named, BodyOf, Names}
-use Rattle.search_theory.proofs.Basics.{value_cases}
+use Rattle.search_values.proofs.Basics.{value_cases}
 
 -- a named atom is not a body
 pub named_no_body : (a : GroundAtom) (j : ℕ) → let n : AtomNode GroundAtom = Named a in ¬ (Some n ≡ Some (BodyOf j))

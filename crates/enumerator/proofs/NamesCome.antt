@@ -23,7 +23,7 @@ use Rattle.core_meaning.specs.Atoms.{GroundAtom, User, ground_atom, with_argumen
 use Rattle.core_meaning.specs.Instances.{atoms_under}
 use Rattle.search_theory.specs.States.{AtomNode, Named, Free, Over, IsName}
 use Rattle.search_theory.specs.Events.{NameTerm, NameAtom}
-use Rattle.search_theory.proofs.Basics.{get_in, get_left, get_last, nat_eq-same}
+use Rattle.search_values.proofs.Basics.{get_in, get_left, get_last, nat_eq-same}
 use Rattle.term_pool.specs.Nodes.{value_at}
 use Rattle.atom_pool.specs.Meanings.{atom_of}
 use Rattle.search_rules.specs.Sameness.{atom_itself}

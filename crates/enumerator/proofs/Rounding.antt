@@ -5,11 +5,11 @@ use Rattle.lists.specs.Lists.{◌∈◌, ◌⊆◌}
 use Rattle.alpha_outside.specs.Outside as outside
 use Rattle.alpha_outside.specs.Outside.{Rose}
 use Rattle.alpha_outside.specs.declared.literal.Value.{Value}
-use Rattle.search_theory.specs.Values.{is_up, lit, value_of, chosen, Holds}
-use Rattle.search_theory.specs.Nogoods.{Nogood}
+use Rattle.search_values.specs.Values.{is_up, lit, value_of, chosen, Holds}
+use Rattle.search_values.specs.Nogoods.{Nogood}
 use Rattle.search_theory.specs.States.{State, Free}
 use Rattle.search_theory.specs.Journals.{replay}
-use Rattle.search_theory.specs.declared.entry.Entry.{Entry}
+use Rattle.search_values.specs.declared.entry.Entry.{Entry}
 use Rattle.search_theory.proofs.Fresh.{superset_of_none}
 use Rattle.ground_search.specs.Searching.{Searching}
 use Rattle.search_rules.specs.Rules.{Reached, search_rules}

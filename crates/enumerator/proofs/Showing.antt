@@ -13,9 +13,9 @@ use Rattle.alpha_outside.specs.Outside as outside
 use Rattle.alpha_outside.specs.Outside.{with_event, Rose, WriteAnswer}
 use Rattle.alpha_outside.specs.declared.stops.SinkStop.{SinkStop}
 use Rattle.alpha_outside.specs.declared.stops.SinkStop.TheVariants as stop
-use Rattle.search_theory.specs.Values.{value_of}
-use Rattle.search_theory.specs.Instances.{Constraint}
-use Rattle.search_theory.specs.Tables.{Made}
+use Rattle.search_values.specs.Values.{value_of}
+use Rattle.search_values.specs.Instances.{Constraint}
+use Rattle.search_values.specs.Tables.{Made}
 use Rattle.search_theory.specs.States as phase
 use Rattle.search_theory.specs.States.{State, BodyOf, IsName, Names, IsSettled, IsFull, AreTrueUserAtoms}
 use Rattle.search_theory.specs.Events.{Show, Allowed}

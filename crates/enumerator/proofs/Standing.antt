@@ -7,7 +7,7 @@ use Rattle.alpha_outside.specs.Outside.{with_event, Rose}
 use Rattle.search_theory.specs.States.{AtomNode, Named, BodyOf, State, Names}
 use Rattle.search_theory.specs.Events.{NameTerm, NameAtom, NameBody, Number, Make, Put, Choose, Close, Strike, Learn, Justify, Back, Show, Pass, happens, Allowed}
 use Rattle.search_theory.specs.Journals.{Legal, Says, replay}
-use Rattle.search_theory.proofs.Basics.{get_left}
+use Rattle.search_values.proofs.Basics.{get_left}
 use Rattle.core_rules.specs.declared.rules.Core.{Core}
 use Rattle.core_meaning.specs.Atoms.{GroundAtom}
 use Rattle.search_rules.specs.Rules.{Reached, search_rules}

@@ -14,11 +14,12 @@ use Rattle.core_rules.specs.declared.rules.CoreRule.{CoreRule}
 use Rattle.core_rules.specs.declared.rules.Test.{Test}
 use Rattle.core_rules.specs.declared.rules.Core.{Core}
 use Rattle.core_meaning.specs.Atoms.{atom_under}
-use Rattle.search_theory.specs.declared.entry.Why.TheVariants.{Given, Chosen, Closed}
-use Rattle.search_theory.specs.Events.{Put, Choose, Close, decision}
+use Rattle.search_values.specs.declared.entry.Why.TheVariants.{Given, Chosen, Closed}
+use Rattle.search_values.specs.Values.{decision}
+use Rattle.search_theory.specs.Events.{Put, Choose, Close}
 use Rattle.search_theory.specs.Journals.{Legal, replay}
 use Rattle.search_theory.specs.States.{IsName}
-use Rattle.search_theory.proofs.Basics.{get_in}
+use Rattle.search_values.proofs.Basics.{get_in}
 use Rattle.search_theory.proofs.Events.{legal_safe}
 use Rattle.term_eval.specs.Evals.{HasTooLarge}
 use Rattle.term_eval.proofs.Meeting.{met_without}

@@ -3,13 +3,13 @@ use Rattle.std.proofs.Common.{◌≡◌, ℕ, List, [], ◌∷◌, refl, inl, in
 use Rattle.alpha_outside.specs.declared.event.Event as event
 use Rattle.alpha_outside.specs.declared.event.Event.TheVariants as say
 use Rattle.alpha_outside.specs.declared.pattern.Pattern.{Pattern}
-use Rattle.search_theory.specs.Values.{Lit}
+use Rattle.search_values.specs.Values.{Lit}
 use Rattle.search_theory.specs.Covers.{IsBlocked, needs_one, lacks, is_denied, has_false_body, MayJustify}
 use Rattle.search_theory.specs.Journals.{Says, ArePatternsOf}
-use Rattle.search_theory.specs.Tables.{Made}
+use Rattle.search_values.specs.Tables.{Made}
 use Rattle.search_theory.specs.States.{IsActive, IsSettled, IsStuck, IsFull, AreTrueUserAtoms}
 use Rattle.search_theory.specs.Events.{NameTerm, NameAtom, NameBody, Number, Make, Put, Choose, Close, Strike, Learn, Justify, Back, Show, Pass, Analysed, Justified, Decisions, Enumerated, happens, Allowed, NoneStuck}
-use Rattle.search_theory.specs.Instances.{Instance, Rules}
+use Rattle.search_values.specs.Instances.{Instance, Rules}
 use Rattle.core_meaning.specs.Atoms.{GroundAtom}
 use Rattle.search_rules.specs.Tests.{Maker}
 use Rattle.core_rules.specs.declared.rules.Core.{Core}

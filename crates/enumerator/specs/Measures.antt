@@ -4,10 +4,10 @@ use Rattle.std.specs.List.{list_any}
 use Rattle.alpha_outside.specs.declared.literal.Value.{Value}
 use Rattle.alpha_outside.specs.declared.literal.Value.TheVariants.{True, MustBe, False}
 use Rattle.alpha_outside.specs.declared.literal.Lit.{Lit}
-use Rattle.search_theory.specs.declared.entry.Entry.{Entry}
-use Rattle.search_theory.specs.Values.{value_of, lit}
-use Rattle.search_theory.specs.Nogoods.{Nogood}
-use Rattle.search_theory.specs.Tables.{Made, same_lit}
+use Rattle.search_values.specs.declared.entry.Entry.{Entry}
+use Rattle.search_values.specs.Values.{value_of, lit}
+use Rattle.search_values.specs.Nogoods.{Nogood}
+use Rattle.search_values.specs.Tables.{Made, same_lit}
 use Rattle.search_rules.specs.Tests.{Maker, same_maker}
 use Rattle.ground_search.specs.Searching.{Searching}
 

@@ -2,9 +2,9 @@
 use Rattle.std.specs.Prelude.{◌≡◌, ◌⊎◌, ℕ, ◌<◌, Some, None, slice_get}
 use Rattle.lists.specs.Lists.{◌∈◌}
 use Rattle.alpha_outside.specs.declared.literal.Value.TheVariants.{MustBe}
-use Rattle.search_theory.specs.Values.{value_of, HasClosed}
-use Rattle.search_theory.specs.Nogoods.{Nogood, IsStruck, Gives, NoneStruck, NoneUnit}
-use Rattle.search_theory.specs.Tables.{Made}
+use Rattle.search_values.specs.Values.{value_of, HasClosed}
+use Rattle.search_values.specs.Nogoods.{Nogood, IsStruck, Gives, NoneStruck, NoneUnit}
+use Rattle.search_values.specs.Tables.{Made}
 use Rattle.search_theory.specs.States.{IsActive}
 use Rattle.search_rules.specs.Tests.{Maker}
 use Rattle.search_rules.specs.Faults.{IsTooLarge}

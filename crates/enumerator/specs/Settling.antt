@@ -3,8 +3,8 @@ use Rattle.std.specs.Prelude.{◌≡◌, ◌⊎◌, ℕ, false, ◌+◌, ◌^◌
 use Rattle.lists.specs.Lists.{◌∈◌}
 use Rattle.alpha_outside.specs.declared.literal.Lit.{Lit}
 use Rattle.alpha_outside.specs.Outside as outside
-use Rattle.search_theory.specs.Values.{chosen, back_to, all_at_0}
-use Rattle.search_theory.specs.Nogoods.{Nogood, IsStruck}
+use Rattle.search_values.specs.Values.{chosen, back_to, all_at_0}
+use Rattle.search_values.specs.Nogoods.{Nogood, IsStruck}
 use Rattle.search_theory.specs.States as phase
 use Rattle.search_theory.specs.Events.{How, Decisions, Enumerated, Analysed, Justified, phase_struck, phase_learned, lits_at}
 use Rattle.ground_search.specs.Searching.{Searching, jump_of}

@@ -4,10 +4,10 @@ use Rattle.std.specs.Io.KnownBytes.{Appends}
 use Rattle.lists.specs.Lists.{◌∈◌, concat}
 use Rattle.alpha_outside.specs.Outside as outside
 use Rattle.alpha_outside.specs.Outside.{Rose}
-use Rattle.search_theory.specs.declared.entry.Entry.{Entry}
-use Rattle.search_theory.specs.Values.{level_of}
-use Rattle.search_theory.specs.Instances.{Instance}
-use Rattle.search_theory.specs.Tables.{Made}
+use Rattle.search_values.specs.declared.entry.Entry.{Entry}
+use Rattle.search_values.specs.Values.{level_of}
+use Rattle.search_values.specs.Instances.{Instance}
+use Rattle.search_values.specs.Tables.{Made}
 use Rattle.search_theory.specs.States.{State, BodyOf, Free, IsMade, IsFull, AreTrueUserAtoms}
 use Rattle.search_theory.specs.Journals.{Legal, replay, IsFinished}
 use Rattle.search_theory.specs.Laws.{NoneEmpty}

@@ -3,7 +3,7 @@
 //! settled: a must-be-true atom stays so, or an unassigned atom is closed, or a set is found.
 
 ghost use Rattle.std.specs.Prelude.{◌≡◌, ◌⊎◌, true, false, IfOk};
-ghost use Rattle.search_theory.specs.Values.{HasClosed};
+ghost use Rattle.search_values.specs.Values.{HasClosed};
 ghost use Rattle.enumerator.specs.Moves.{MoveIs, IsHalt, IsQuiet, IsIdle, NoneSince, SomeMustBe, NoneMustBe};
 
 use alpha_outside::{AtomId, NogoodId, OutOfMemory, Value};

@@ -2,7 +2,7 @@
 //! last of them. A set is written and noted before, and where no literal was chosen, the search is finished.
 
 ghost use Rattle.std.specs.Prelude.{◌≡◌, ◌≤◌, ◌<◌, ◌+◌, ◌^◌, ◌⊎◌, ℕ, List, Option, Some, None, [], true, false, OnOk, IfErr, IfOk, length, slice_get};
-ghost use Rattle.search_theory.specs.Values.{chosen};
+ghost use Rattle.search_values.specs.Values.{chosen};
 ghost use Rattle.search_theory.specs.States as phase;
 ghost use Rattle.ground_search.specs.Searching.{ids};
 ghost use Rattle.enumerator.specs.Standing.{IsKept, IsReady, IsTraceFault, IsRoundFault, Carries, Fits, Given, Stands, Leaves};

@@ -8,11 +8,11 @@ use Rattle.std.proofs.lemmas.Bool.Decides.{eqb_tells}
 use Rattle.std.proofs.lemmas.List.{take_more, take-append-drop, reverse-append, reverse-reverse}
 use Rattle.lists.specs.Lists.{◌∈◌}
 use Rattle.lists.proofs.ListLemmas.{∈-append_left, ∈-append_right}
-use Rattle.search_theory.specs.declared.entry.Entry.{Entry}
-use Rattle.search_theory.specs.declared.entry.Why.{Why}
-use Rattle.search_theory.specs.declared.entry.Why.TheVariants.{Given, Chosen, Closed}
-use Rattle.search_theory.specs.Values.{Value, Lit, lit, is_up, value_of, opened, level_of, first_level, chosen, chosen_with}
-use Rattle.search_theory.proofs.Basics.{value_cases, nat_eq-same}
+use Rattle.search_values.specs.declared.entry.Entry.{Entry}
+use Rattle.search_values.specs.declared.entry.Why.{Why}
+use Rattle.search_values.specs.declared.entry.Why.TheVariants.{Given, Chosen, Closed}
+use Rattle.search_values.specs.Values.{Value, Lit, lit, is_up, value_of, opened, level_of, first_level, chosen, chosen_with}
+use Rattle.search_values.proofs.Basics.{value_cases, nat_eq-same}
 use Rattle.trail.specs.Assigning.{IsStackOf, first_level_of}
 use Rattle.ground_search.specs.Searching.{adds_choice, jump_by, jump_of}
 

@@ -9,11 +9,11 @@ use Rattle.std.proofs.lemmas.Option.{slice_get-get_or, get_or_from_slice_get, sl
 use Rattle.std.proofs.Math.Bool.{beq}
 use Rattle.lists.specs.Lists.{◌∈◌, Each, HasNoRepeats}
 use Rattle.lists.proofs.ListLemmas.{Each-append, ∈-append_left, ∈-append_right, ∈-append_cases, ∈-map}
-use Rattle.search_theory.specs.Values.{Lit, lit}
-use Rattle.search_theory.specs.Nogoods.{Nogood}
-use Rattle.search_theory.specs.Tables.{other_sign, same_lit, both_signs, without, once, set_of, lits_of, each_with}
-use Rattle.search_theory.proofs.Basics.{in_single, get_in, and_left, and_right, and_intro, bool_cases, nat_eq-same, nat_eq-true, or_left, or_right, lit_is, any_to, any_from}
-use Rattle.search_theory.proofs.Tables.{Clash, nogood, set_of-or_clash, once-from, once-to, in_lits_of}
+use Rattle.search_values.specs.Values.{Lit, lit}
+use Rattle.search_values.specs.Nogoods.{Nogood}
+use Rattle.search_values.specs.Tables.{other_sign, same_lit, both_signs, without, once, set_of, lits_of, each_with}
+use Rattle.search_values.proofs.Basics.{in_single, get_in, and_left, and_right, and_intro, bool_cases, nat_eq-same, nat_eq-true, or_left, or_right, lit_is, any_to, any_from}
+use Rattle.search_values.proofs.Tables.{Clash, nogood, set_of-or_clash, once-from, once-to, in_lits_of}
 use Rattle.nogood_store.specs.Stored.{HasNoAtomTwice, IsHeadOf, atom_of}
 use Rattle.ground_search.specs.Searching.{LitsAreBelow, AreBelow}
 use Rattle.ground_search.specs.declared.draft.Draft.{Draft}

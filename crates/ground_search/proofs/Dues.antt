@@ -6,10 +6,10 @@ use Rattle.lists.specs.Lists.{◌∈◌}
 use Rattle.lists.proofs.ListLemmas.{Each-at, Each-from, ∈-map, ∈-map_from}
 use Rattle.alpha_outside.specs.declared.node.Node.{Node}
 use Rattle.alpha_outside.specs.declared.maker.Maker.TheVariants as say
-use Rattle.search_theory.specs.Values.{True, lit, value_of, Holds}
-use Rattle.search_theory.specs.Tables as table
+use Rattle.search_values.specs.Values.{True, lit, value_of, Holds}
+use Rattle.search_values.specs.Tables as table
 use Rattle.search_theory.specs.States.{IsActive}
-use Rattle.search_theory.proofs.Basics.{get_in, nat_eq-same, nat_eq-true, and_left, and_intro}
+use Rattle.search_values.proofs.Basics.{get_in, nat_eq-same, nat_eq-true, and_left, and_intro}
 use Rattle.atom_pool.specs.declared.instances.Made.{Made}
 use Rattle.atom_pool.specs.InstancesMade.{HasMaker}
 use Rattle.choice_manager.specs.Active.{IsActiveIn, NoneActiveIn, ArePlaced}

@@ -12,9 +12,9 @@ use Rattle.alpha_outside.specs.declared.literal.Lit.{Lit}
 use Rattle.alpha_outside.specs.declared.literal.Value.{Value}
 use Rattle.alpha_outside.specs.declared.maker.Maker.TheVariants as say
 use Rattle.core_rules.specs.declared.rules.Core.{Core}
-use Rattle.search_theory.specs.declared.entry.Entry.{Entry}
-use Rattle.search_theory.specs.Values.{value_of, first_level, level_of, opened, all_at_0}
-use Rattle.search_theory.proofs.Basics.{in_single, get_in}
+use Rattle.search_values.specs.declared.entry.Entry.{Entry}
+use Rattle.search_values.specs.Values.{value_of, first_level, level_of, opened, all_at_0}
+use Rattle.search_values.proofs.Basics.{in_single, get_in}
 use Rattle.nogood_store.specs.Stored as nogoods
 use Rattle.nogood_store.specs.Stored.{Stored}
 use Rattle.atom_pool.specs.declared.instances.Made.{Made}

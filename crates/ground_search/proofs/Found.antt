@@ -7,10 +7,10 @@ use Rattle.std.proofs.Math.Seq.{drop-cons}
 use Rattle.ground_search.proofs.Going.{get_or-in}
 use Rattle.lists.specs.Lists.{◌∈◌, ◌⊆◌}
 use Rattle.lists.proofs.ListLemmas.{∈-map_from}
-use Rattle.search_theory.specs.declared.entry.Entry.{Entry}
-use Rattle.search_theory.specs.Values.{Value, True, MustBe, False, Lit, lit, Holds}
-use Rattle.search_theory.specs.Nogoods.{Nogood, IsStruck, IsLeft, Gives, NoneStruck, NoneUnit}
-use Rattle.search_theory.proofs.Basics.{get_in}
+use Rattle.search_values.specs.declared.entry.Entry.{Entry}
+use Rattle.search_values.specs.Values.{Value, True, MustBe, False, Lit, lit, Holds}
+use Rattle.search_values.specs.Nogoods.{Nogood, IsStruck, IsLeft, Gives, NoneStruck, NoneUnit}
+use Rattle.search_values.proofs.Basics.{get_in}
 use Rattle.nogood_store.specs.Stored.{Stored, atom_of, nogood_of, Covers, AreEnough}
 use Rattle.ground_search.specs.Searching.{LitsAreBelow}
 use Rattle.ground_search.specs.Visits.{VisitIs}

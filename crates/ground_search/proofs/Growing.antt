@@ -15,9 +15,9 @@ use Rattle.core_rules.specs.declared.rules.Core.{Core}
 use Rattle.core_rules.specs.CoreForm.{IsRuleForm}
 use Rattle.core_rules.specs.Names.{IsNamedTerm, IsNamedAtom, IsNamedHead, IsNamedRule}
 use Rattle.core_rules.specs.Variables.{variables, has_arithmetic, head_variables, atom_variables, test_variables, variables_of, test_terms}
-use Rattle.search_theory.specs.declared.entry.Entry.{Entry}
+use Rattle.search_values.specs.declared.entry.Entry.{Entry}
 use Rattle.search_theory.specs.States.{AtomNode}
-use Rattle.search_theory.proofs.Basics.{get_in}
+use Rattle.search_values.proofs.Basics.{get_in}
 use Rattle.core_meaning.specs.Atoms.{User}
 use Rattle.search_theory.specs.States as theory
 use Rattle.nogood_store.specs.Stored.{nogood_of}

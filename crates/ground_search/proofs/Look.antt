@@ -6,10 +6,10 @@ use Rattle.std.proofs.lemmas.List.{take_more}
 use Rattle.std.proofs.Math.Seq.{take-length}
 use Rattle.lists.specs.Lists.{◌∈◌}
 use Rattle.lists.proofs.ListLemmas.{∈-append_left, ∈-append_right, ∈-append_cases}
-use Rattle.search_theory.specs.declared.entry.Entry.{Entry}
-use Rattle.search_theory.specs.Values.{Value, True, MustBe, False, Lit, lit, is_up, full_value, value_of, Holds, HoldsFully}
-use Rattle.search_theory.specs.Nogoods.{IsStruck, IsLeft, Rises, Gives}
-use Rattle.search_theory.proofs.Basics.{in_single, nat_eq-true, nat_eq-same, get_in}
+use Rattle.search_values.specs.declared.entry.Entry.{Entry}
+use Rattle.search_values.specs.Values.{Value, True, MustBe, False, Lit, lit, is_up, full_value, value_of, Holds, HoldsFully}
+use Rattle.search_values.specs.Nogoods.{IsStruck, IsLeft, Rises, Gives}
+use Rattle.search_values.proofs.Basics.{in_single, nat_eq-true, nat_eq-same, get_in}
 use Rattle.nogood_store.specs.Stored.{IsHeadOf, atom_of, nogood_of}
 use Rattle.ground_search.specs.Visits.{VisitIs, value_holds, is_must_be_value, is_head_atom, answer_unassigned, answer_of}
 use Rattle.ground_search.specs.declared.visit.Visit.TheVariants.{Idle, Unit}

@@ -11,13 +11,13 @@ use Rattle.alpha_outside.specs.declared.literal.Lit.{Lit}
 use Rattle.alpha_outside.specs.declared.node.Node.{Node}
 use Rattle.core_rules.specs.declared.rules.Core.{Core}
 use Rattle.core_rules.specs.declared.rules.CoreRule.{CoreRule}
-use Rattle.search_theory.specs.declared.entry.Entry.{Entry}
+use Rattle.search_values.specs.declared.entry.Entry.{Entry}
 use Rattle.core_meaning.specs.Atoms.{GroundAtom}
 use Rattle.search_theory.specs.States.{AtomNode}
-use Rattle.search_theory.specs.Tables.{nogoods_of}
+use Rattle.search_values.specs.Tables.{nogoods_of}
 use Rattle.search_theory.specs.Events.{lits_at, lits_in, phase_struck}
-use Rattle.search_theory.specs.Values.{all_at_0}
-use Rattle.search_theory.proofs.Basics.{nat_eq-same}
+use Rattle.search_values.specs.Values.{all_at_0}
+use Rattle.search_values.proofs.Basics.{nat_eq-same}
 use Rattle.search_rules.specs.Tests.{same_maker}
 use Rattle.ground_search.specs.Moves.{IsRuleMade}
 use Rattle.nogood_store.specs.Stored as nogoods

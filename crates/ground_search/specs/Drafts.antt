@@ -2,8 +2,8 @@
 use Rattle.std.specs.Prelude.{◌≡◌, ℕ, ◌⊎◌, Bool, true, false, not, List, [], ◌∷◌, ◌++◌, map, Option, Some, None}
 use Rattle.lists.specs.Lists.{◌∈◌}
 use Rattle.alpha_outside.specs.declared.literal.Lit.{Lit}
-use Rattle.search_theory.specs.Values.{lit}
-use Rattle.search_theory.specs.Nogoods.{Nogood}
+use Rattle.search_values.specs.Values.{lit}
+use Rattle.search_values.specs.Nogoods.{Nogood}
 use Rattle.nogood_store.specs.Stored as store
 use Rattle.nogood_store.specs.Stored.{Stored, HasNoAtomTwice, IsHeadOf, atom_of}
 use Rattle.ground_search.specs.Searching.{LitsAreBelow}

@@ -2,10 +2,10 @@
 use Rattle.std.specs.Prelude.{◌≡◌, ℕ, ◌<◌, ◌≤◌, true, List, [], map, Some, slice_get}
 use Rattle.lists.specs.Lists.{◌∈◌, Each, HasNoRepeats}
 use Rattle.alpha_outside.specs.declared.literal.Value.TheVariants.{True}
-use Rattle.search_theory.specs.declared.entry.Entry.{Entry}
-use Rattle.search_theory.specs.Values.{value_of, lit, Holds}
-use Rattle.search_theory.specs.Nogoods.{Nogood, IsStruck, Gives, NoneStruck, NoneUnit}
-use Rattle.search_theory.specs.Tables.{Made}
+use Rattle.search_values.specs.declared.entry.Entry.{Entry}
+use Rattle.search_values.specs.Values.{value_of, lit, Holds}
+use Rattle.search_values.specs.Nogoods.{Nogood, IsStruck, Gives, NoneStruck, NoneUnit}
+use Rattle.search_values.specs.Tables.{Made}
 use Rattle.search_theory.specs.States.{IsName, IsMade, IsActive, Names}
 use Rattle.asp_meaning.specs.Atoms.{Atom}
 use Rattle.asp_meaning.specs.Lines.{IsInOrder}

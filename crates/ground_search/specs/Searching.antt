@@ -12,14 +12,14 @@ use Rattle.alpha_outside.specs.declared.maker.Maker as outside
 use Rattle.alpha_outside.specs.declared.maker.Maker.TheVariants as say
 use Rattle.core_rules.specs.declared.rules.Core.{Core}
 use Rattle.core_meaning.specs.Atoms.{GroundAtom, User}
-use Rattle.search_theory.specs.declared.entry.Why.{Why}
-use Rattle.search_theory.specs.declared.entry.Why.TheVariants.{Given, Chosen, Closed}
-use Rattle.search_theory.specs.declared.entry.Entry.{Entry}
-use Rattle.search_theory.specs.Values.{entry_on, value_of, level_of}
-use Rattle.search_theory.specs.Nogoods.{Nogood}
-use Rattle.search_theory.specs.Instances.{Kind, Plain, Choice, Constraint, Instance}
-use Rattle.search_theory.specs.Tables as table
-use Rattle.search_theory.specs.Tables.{nogoods_of}
+use Rattle.search_values.specs.declared.entry.Why.{Why}
+use Rattle.search_values.specs.declared.entry.Why.TheVariants.{Given, Chosen, Closed}
+use Rattle.search_values.specs.declared.entry.Entry.{Entry}
+use Rattle.search_values.specs.Values.{entry_on, value_of, level_of}
+use Rattle.search_values.specs.Nogoods.{Nogood}
+use Rattle.search_values.specs.Instances.{Kind, Plain, Choice, Constraint, Instance}
+use Rattle.search_values.specs.Tables as table
+use Rattle.search_values.specs.Tables.{nogoods_of}
 use Rattle.search_theory.specs.States as theory
 use Rattle.search_theory.specs.States.{AtomNode, Named, BodyOf}
 use Rattle.search_theory.specs.Events.{Event}

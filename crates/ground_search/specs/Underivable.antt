@@ -8,8 +8,8 @@ use Rattle.alpha_outside.specs.declared.pattern.PatternTerm.TheVariants.{Known}
 use Rattle.core_rules.specs.declared.rules.CoreAtom.{CoreAtom}
 use Rattle.core_rules.specs.declared.rules.CoreRule.{CoreRule}
 use Rattle.core_meaning.specs.Atoms.{GroundAtom, atom_under}
-use Rattle.search_theory.specs.Values.{value_of, lit}
-use Rattle.search_theory.specs.Tables.{Made, lits_of}
+use Rattle.search_values.specs.Values.{value_of, lit}
+use Rattle.search_values.specs.Tables.{Made, lits_of}
 use Rattle.search_theory.specs.States.{IsName}
 use Rattle.search_rules.specs.Tests.{Maker, same_maker}
 use Rattle.search_rules.specs.Rules.{names_atom}

@@ -3,8 +3,8 @@ use Rattle.std.specs.Prelude.{ℕ, Bool, true, false, not, ◌&&◌, cond, nat_e
 use Rattle.alpha_outside.specs.declared.literal.Value.{Value}
 use Rattle.alpha_outside.specs.declared.literal.Value.TheVariants.{True, MustBe, False}
 use Rattle.alpha_outside.specs.declared.literal.Lit.{Lit}
-use Rattle.search_theory.specs.declared.entry.Entry.{Entry}
-use Rattle.search_theory.specs.Nogoods.{Nogood, IsStruck, Gives}
+use Rattle.search_values.specs.declared.entry.Entry.{Entry}
+use Rattle.search_values.specs.Nogoods.{Nogood, IsStruck, Gives}
 use Rattle.ground_search.specs.declared.visit.Visit.{Visit}
 use Rattle.ground_search.specs.declared.visit.Visit.TheVariants.{Idle, Unit, Struck}
 

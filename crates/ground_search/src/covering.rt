@@ -15,7 +15,7 @@ ghost use Rattle.core_rules.specs.declared.rules.CoreRule.{CoreRule as Rule};
 ghost use Rattle.core_rules.specs.CoreForm.{IsFitting};
 ghost use Rattle.core_meaning.specs.Terms.{eval_all};
 ghost use Rattle.term_pool.specs.Nodes.{value_at};
-ghost use Rattle.search_theory.specs.Values.{value_of};
+ghost use Rattle.search_values.specs.Values.{value_of};
 ghost use Rattle.ground_search.specs.Searching.{ids};
 ghost use Rattle.ground_search.specs.Moves.{IsNamed};
 ghost use Rattle.ground_search.specs.Resolving.{IsPlainTerm};

@@ -2,8 +2,8 @@
 
 ghost use Rattle.std.specs.Prelude.{◌≡◌, ◌<◌, ℕ, [], ◌∷◌, ◌++◌, None, Some, map, IfOk, true, false, OnOk, MatchOption};
 ghost use Rattle.lists.specs.Lists.{Each};
-ghost use Rattle.search_theory.specs.Values.{lit};
-ghost use Rattle.search_theory.specs.Tables.{table_of, both_signs, once, set_of, lits_of, each_with, with_body};
+ghost use Rattle.search_values.specs.Values.{lit};
+ghost use Rattle.search_values.specs.Tables.{table_of, both_signs, once, set_of, lits_of, each_with, with_body};
 ghost use Rattle.nogood_store.specs.Stored.{HasNoAtomTwice, atom_of};
 ghost use Rattle.ground_search.specs.Searching.{LitsAreBelow, AreBelow, IsWithin, kind_of, instance_of};
 ghost use Rattle.ground_search.specs.Drafts.{IsDraft, nogood_of, place_of, StartsWith, AddsOnce, head_lits};

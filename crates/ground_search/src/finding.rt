@@ -8,10 +8,10 @@ ghost use Rattle.alpha_outside.specs.declared.literal.Value.TheVariants.{True, M
 ghost use Rattle.asp_meaning.specs.Atoms.{Atom as Fact};
 ghost use Rattle.asp_meaning.specs.Lines.{IsSetLine};
 ghost use Rattle.core_meaning.specs.Atoms.{User as OfProgram};
-ghost use Rattle.search_theory.specs.declared.entry.Why.TheVariants.{Closed};
-ghost use Rattle.search_theory.specs.Values.{lit, value_of, chosen as chosen_of, HasClosed, is_up as up_of};
+ghost use Rattle.search_values.specs.declared.entry.Why.TheVariants.{Closed};
+ghost use Rattle.search_values.specs.Values.{lit, value_of, chosen as chosen_of, HasClosed, is_up as up_of};
 ghost use Rattle.search_theory.specs.States.{IsActive, Names};
-ghost use Rattle.search_theory.specs.Tables.{Made};
+ghost use Rattle.search_values.specs.Tables.{Made};
 ghost use Rattle.trail.specs.Assigning.{IsStackOf};
 ghost use Rattle.search_rules.specs.Tests.{Maker as Rule};
 ghost use Rattle.ground_search.specs.Searching.{ids, state_of, jump_of, adds_choice};
@@ -21,7 +21,7 @@ use crate::search::Search;
 use crate::visit::{Visit, look_at};
 use alpha_outside::{AtomId, List, Lit, Maker, NogoodId, OutOfMemory, Value};
 use answer_printer::{set_line, sorted_atoms};
-use search_theory::{Entry, Why};
+use search_values::{Entry, Why};
 use trail::Trail;
 
 /// What going through all nogoods finds.

@@ -3,9 +3,9 @@
 ghost use Rattle.std.specs.Prelude.{◌≡◌, ◌<◌, ◌^◌, ◌++◌, ◌∷◌, ◌⊎◌, [], ℕ, List, None, Some, true, false, length, OnOk, IfOk};
 ghost use Rattle.alpha_outside.specs.declared.literal.Lit.{Lit};
 ghost use Rattle.alpha_outside.specs.declared.literal.Value.TheVariants.{False};
-ghost use Rattle.search_theory.specs.declared.entry.Why.TheVariants.{Given, Chosen, Closed};
-ghost use Rattle.search_theory.specs.Values.{value_of, level_of, back_to, all_at_0};
-ghost use Rattle.search_theory.specs.Events.{decision, phase_struck, phase_learned, lits_at};
+ghost use Rattle.search_values.specs.declared.entry.Why.TheVariants.{Given, Chosen, Closed};
+ghost use Rattle.search_values.specs.Values.{value_of, level_of, back_to, all_at_0, decision};
+ghost use Rattle.search_theory.specs.Events.{phase_struck, phase_learned, lits_at};
 ghost use Rattle.search_theory.specs.States as phase;
 ghost use Rattle.nogood_store.specs.Stored.{HasNoAtomTwice};
 ghost use Rattle.trail.specs.Assigning.{MayBecome, MayDecide};

@@ -3,7 +3,7 @@ use Rattle.std.proofs.Common.{◌≡◌, ◌<◌, refl, sym, ap, subst, ◌∙�
 use Rattle.std.proofs.lemmas.Option.{same_Some}
 use Rattle.lists.specs.Lists.{◌∈◌, ◌⊆◌}
 use Rattle.lists.proofs.ListLemmas.{∈-append_left, ∈-append_right, ∈-append_cases}
-use Rattle.search_theory.proofs.Basics.{get_left, get_last}
+use Rattle.search_values.proofs.Basics.{get_left, get_last}
 use Rattle.nogood_store.specs.Stored.{Stored, Covers, IsCovered, AreEnough, IsSaid}
 use Rattle.nogood_store.proofs.Last.{in_front}
 

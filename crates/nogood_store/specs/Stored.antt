@@ -3,8 +3,8 @@ use Rattle.std.specs.Prelude.{◌≡◌, ◌<◌, ◌⊎◌, ℕ, false, List, l
 use Rattle.std.specs.Option.{option_map, option_and_then}
 use Rattle.lists.specs.Lists.{◌∈◌, ◌⊆◌, HasNoRepeats}
 use Rattle.alpha_outside.specs.declared.literal.Lit.{Lit}
-use Rattle.search_theory.specs.Values.{lit}
-use Rattle.search_theory.specs.Nogoods.{Nogood}
+use Rattle.search_values.specs.Values.{lit}
+use Rattle.search_values.specs.Nogoods.{Nogood}
 
 pub record Stored : Type 0 where
   pub lits : List Lit

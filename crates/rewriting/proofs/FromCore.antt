@@ -10,8 +10,8 @@ use Rattle.asp_laws.proofs.Globals.{only_global_variables_matter}
 use Rattle.choice_rewrite.specs.declared.single.SingleRule.{SingleRule}
 use Rattle.choice_rewrite.specs.SingleRules.{as_statement}
 use Rattle.choice_rewrite.specs.AnswerSets.{IsSingleInstance, IsMet, LicensesSingly, IsFoundedList, IsSingleAnswerSet}
-use Rattle.search_theory.specs.Instances.{Instance, IsHead, body_holds, IsFounded}
-use Rattle.search_theory.proofs.Basics.{bool_cases}
+use Rattle.search_values.specs.Instances.{Instance, IsHead, body_holds, IsFounded}
+use Rattle.search_values.proofs.Basics.{bool_cases}
 use Rattle.core_meaning.specs.Atoms.{GroundAtom, User}
 use Rattle.core_meaning.specs.Numberings.{Numbering, no_numbers, IsNumbering}
 use Rattle.core_meaning.specs.AnswerSets.{core_instance, IsCoreAnswerSet, HasUserAtoms, HasCoreSets, AreDetermined}

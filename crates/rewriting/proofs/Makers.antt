@@ -4,7 +4,7 @@ use Rattle.lists.specs.Lists.{◌∈◌, Each}
 use Rattle.asp_meaning.specs.declared.value.Value.{Value}
 use Rattle.asp_meaning.specs.Terms.{Substitution}
 use Rattle.choice_rewrite.specs.declared.single.SingleRule.{SingleRule}
-use Rattle.search_theory.specs.Instances.{Instance, IsHead, IsFounded}
+use Rattle.search_values.specs.Instances.{Instance, IsHead, IsFounded}
 use Rattle.core_rules.specs.declared.rules.CoreRule.{CoreRule}
 use Rattle.core_meaning.specs.Terms.{Binding}
 use Rattle.core_meaning.specs.Atoms.{GroundAtom, User}

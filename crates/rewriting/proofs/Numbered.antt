@@ -13,8 +13,8 @@ use Rattle.asp_meaning.specs.declared.value.Value.{Value}
 use Rattle.asp_meaning.specs.Terms.{Variable, Substitution, all_of, eval, eval_all}
 use Rattle.asp_meaning.specs.Orders.{value_cmp, passes}
 use Rattle.asp_meaning.specs.Programs.{HasValue}
-use Rattle.search_theory.specs.Instances.{Kind, Constraint, Instance}
-use Rattle.search_theory.proofs.Basics.{and_left, and_right, and_intro, nat_eq-same, nat_eq-true}
+use Rattle.search_values.specs.Instances.{Kind, Constraint, Instance}
+use Rattle.search_values.proofs.Basics.{and_left, and_right, and_intro, nat_eq-same, nat_eq-true}
 use Rattle.core_rules.specs.declared.rules.CoreRule.{CoreRule}
 use Rattle.core_meaning.specs.Terms.{Binding, compared}
 use Rattle.core_meaning.specs.Terms as meaning

@@ -16,8 +16,8 @@ use Rattle.asp_safety.specs.Binding.{variables_of}
 use Rattle.choice_rewrite.specs.declared.single.SingleRule.{SingleRule}
 use Rattle.choice_rewrite.specs.SingleRules.{head_of, as_statement}
 use Rattle.choice_rewrite.specs.AnswerSets.{IsMet}
-use Rattle.search_theory.specs.Instances.{Kind, Plain, Choice, Constraint, Instance, body_holds, IsHead, KindHolds}
-use Rattle.search_theory.proofs.Basics.{bool_cases, body_parts, body_from}
+use Rattle.search_values.specs.Instances.{Kind, Plain, Choice, Constraint, Instance, body_holds, IsHead, KindHolds}
+use Rattle.search_values.proofs.Basics.{bool_cases, body_parts, body_from}
 use Rattle.core_meaning.specs.Atoms.{GroundAtom, User}
 use Rattle.core_meaning.specs.Instances.{kind_with}
 use Rattle.core_meaning.specs.AnswerSets.{HasUserAtoms}

@@ -12,8 +12,8 @@ use Rattle.asp_laws.proofs.Globals.{only_global_variables_matter}
 use Rattle.choice_rewrite.specs.declared.single.SingleRule.{SingleRule}
 use Rattle.choice_rewrite.specs.SingleRules.{as_statement}
 use Rattle.choice_rewrite.specs.AnswerSets.{LicensesSingly, IsFoundedList, IsSingleAnswerSet}
-use Rattle.search_theory.specs.Instances.{Instance, body_holds, KindHolds, IsFounded}
-use Rattle.search_theory.proofs.Basics.{or_cases, or_left, or_right, body_parts}
+use Rattle.search_values.specs.Instances.{Instance, body_holds, KindHolds, IsFounded}
+use Rattle.search_values.proofs.Basics.{or_cases, or_left, or_right, body_parts}
 use Rattle.core_meaning.specs.Atoms.{GroundAtom, User}
 use Rattle.core_meaning.specs.Numberings.{Numbering, IsNumbering}
 use Rattle.core_meaning.specs.AnswerSets.{core_instance, IsCoreAnswerSet, HasUserAtoms, HasCoreSets}

@@ -1,12 +1,12 @@
 -- Each body atom is named once, and is that of its instance.
 use Rattle.std.proofs.Common.{◌≡◌, ℕ, List, [], ◌∷◌, ◌++◌, length, refl, sym, ◌∙◌, ap, subst, inl, inr}
 use Rattle.std.specs.Prelude.{Option, Some, None, slice_get}
-use Rattle.search_theory.specs.Instances.{Rules}
-use Rattle.search_theory.specs.Tables.{Made}
+use Rattle.search_values.specs.Instances.{Rules}
+use Rattle.search_values.specs.Tables.{Made}
 use Rattle.search_theory.specs.States.{AtomNode, Named, BodyOf, State, IsPending}
 use Rattle.search_theory.specs.Events.{Event, NameTerm, NameAtom, NameBody, Number, Make, Put, Choose, Close, Strike, Learn, Justify, Back, Show, Pass, happens, BodyIsNext, Allowed}
 use Rattle.search_theory.specs.Journals.{replay, Legal}
-use Rattle.search_theory.proofs.Basics.{get_none, get_snoc}
+use Rattle.search_values.proofs.Basics.{get_none, get_snoc}
 
 -- no body atom has two names, and an instance with a name for its body atom has that body atom
 pub record BodyNames {N A K : Type 0} (s : State N A K) : Type 0 where

@@ -2,10 +2,12 @@
 use Rattle.std.proofs.Common.{◌≡◌, ℕ, suc, zero, ◌⊎◌, true, false, List, [], ◌∷◌, ◌++◌, refl, sym, ap, subst, inl, inr, arith}
 use Rattle.std.specs.Prelude.{Option, Some, None, slice_get}
 use Rattle.lists.specs.Lists.{◌∈◌}
-use Rattle.search_theory.specs.Values.{Value, True, MustBe, False, Lit, Closed, Entry, lit, value_of, Holds, HoldsFully, entry_on}
-use Rattle.search_theory.specs.Nogoods.{IsStruck, IsLeft, Rises}
-use Rattle.search_theory.specs.Instances.{Plain, Instance}
-use Rattle.search_theory.specs.Tables.{Made}
+use Rattle.search_values.specs.declared.entry.Why.TheVariants.{Closed}
+use Rattle.search_values.specs.declared.entry.Entry.{Entry}
+use Rattle.search_values.specs.Values.{Value, True, MustBe, False, Lit, lit, value_of, Holds, HoldsFully, entry_on}
+use Rattle.search_values.specs.Nogoods.{IsStruck, IsLeft, Rises}
+use Rattle.search_values.specs.Instances.{Plain, Instance}
+use Rattle.search_values.specs.Tables.{Made}
 use Rattle.search_theory.specs.States.{AtomNode, Named, BodyOf, State, IsName, IsUp, IsActive, IsMade, IsSettled, IsStuck, IsFull, AreTrueUserAtoms}
 use Rattle.search_theory.specs.Events.{Decisions, Event, NameAtom, NameBody, Make, Put, Choose, Close, Strike, Learn, Back, Show, NoneStuck, Allowed}
 use Rattle.search_theory.specs.Journals.{replay, Legal}

@@ -2,13 +2,14 @@
 use Rattle.std.proofs.Common.{◌≡◌, ℕ, ◌⊎◌, Bool, true, false, ◌&&◌, List, [], ◌∷◌, refl, sym, ◌∙◌, ap, subst, inl, inr}
 use Rattle.std.specs.Prelude.{Option, Some, None}
 use Rattle.lists.specs.Lists.{◌∈◌, ◌⊆◌}
-use Rattle.search_theory.specs.Values.{Value, True, MustBe, False, Lit, Entry, lit, value_of, Holds}
-use Rattle.search_theory.specs.Nogoods.{Nogood, IsStruck, IsLeft, Gives}
-use Rattle.search_theory.specs.Instances.{Kind, Plain, Choice, Constraint, Instance, body_holds, head_taken, IsHead, IsFounded, Rules, IsExtension}
-use Rattle.search_theory.specs.Tables.{Made, BodyFits}
+use Rattle.search_values.specs.declared.entry.Entry.{Entry}
+use Rattle.search_values.specs.Values.{Value, True, MustBe, False, Lit, lit, value_of, Holds}
+use Rattle.search_values.specs.Nogoods.{Nogood, IsStruck, IsLeft, Gives}
+use Rattle.search_values.specs.Instances.{Kind, Plain, Choice, Constraint, Instance, body_holds, head_taken, IsHead, IsFounded, Rules, IsExtension}
+use Rattle.search_values.specs.Tables.{Made, BodyFits}
 use Rattle.search_theory.specs.States.{AtomNode, Names, KindNames, Denotes, State, IsName, truth, Agrees, IsOpen, IsSound}
 use Rattle.search_theory.specs.Covers.{IsBlocked, needs_one, lacks, is_denied, has_false_body, IsCover, MayJustify}
-use Rattle.search_theory.proofs.Basics.{and_intro, BodyParts, body_parts, some_or_all}
+use Rattle.search_values.proofs.Basics.{and_intro, BodyParts, body_parts, some_or_all}
 use Rattle.search_theory.proofs.Meaning.{OfAtom, OfBody, IsBody, truth_means, AllKnown}
 use Rattle.search_theory.proofs.Stack.{value_known}
 use Rattle.search_theory.proofs.Central.{GoodMade, Valid}

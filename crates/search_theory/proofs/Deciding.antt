@@ -3,13 +3,14 @@ use Rattle.std.proofs.Common.{◌≡◌, ℕ, ◌⊎◌, Bool, true, false, not,
 use Rattle.std.specs.Prelude.{Option, Some, None, nat_eq, is_none}
 use Rattle.std.specs.List.{list_any}
 use Rattle.lists.specs.Lists.{◌∈◌}
-use Rattle.search_theory.specs.Values.{Value, True, MustBe, False, Lit, Entry, is_up, lit, value_of, Holds, full_value, HoldsFully}
-use Rattle.search_theory.specs.Nogoods.{Nogood, IsLeft, Rises, Gives, NoneStruck, NoneUnit}
-use Rattle.search_theory.specs.Instances.{all_in, none_in}
-use Rattle.search_theory.specs.Tables.{Made, same_lit}
+use Rattle.search_values.specs.declared.entry.Entry.{Entry}
+use Rattle.search_values.specs.Values.{Value, True, MustBe, False, Lit, is_up, lit, value_of, Holds, full_value, HoldsFully}
+use Rattle.search_values.specs.Nogoods.{Nogood, IsLeft, Rises, Gives, NoneStruck, NoneUnit}
+use Rattle.search_values.specs.Instances.{all_in, none_in}
+use Rattle.search_values.specs.Tables.{Made, same_lit}
 use Rattle.search_theory.specs.States.{State, NoneActive}
 use Rattle.search_theory.specs.Events.{IsNew}
-use Rattle.search_theory.proofs.Basics.{or_left, or_right, any_from, and_intro, all_in-from, none_in-at, none_in-from, nat_eq-same, value_cases}
+use Rattle.search_values.proofs.Basics.{or_left, or_right, any_from, and_intro, all_in-from, none_in-at, none_in-from, nat_eq-same, value_cases}
 
 -- whether the value is up, or down, as asked
 abbrev pub up_is : Option Value → Bool → Bool

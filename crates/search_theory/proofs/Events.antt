@@ -3,14 +3,16 @@ use Rattle.std.proofs.Common.{◌≡◌, ℕ, ◌⊎◌, Bool, true, false, List
 use Rattle.std.specs.Prelude.{Option, Some, None, slice_get}
 use Rattle.lists.specs.Lists.{◌∈◌}
 use Rattle.lists.proofs.ListLemmas.{∈-append_left, ∈-append_right, ∈-append_cases}
-use Rattle.search_theory.specs.Values.{Value, True, MustBe, False, Lit, Given, Chosen, Closed, Entry, lit, value_of, entry_on, back_to, all_at_0, chosen, HasClosed}
-use Rattle.search_theory.specs.Nogoods.{Nogood, IsStruck, Gives, NoneUnit}
-use Rattle.search_theory.specs.Instances.{Kind, Plain, Choice, Constraint, Instance, all_in, none_in, head_taken, Rules}
-use Rattle.search_theory.specs.Tables.{Made, nogoods_of}
+use Rattle.search_values.specs.declared.entry.Why.TheVariants.{Given, Chosen, Closed}
+use Rattle.search_values.specs.declared.entry.Entry.{Entry}
+use Rattle.search_values.specs.Values.{Value, True, MustBe, False, Lit, lit, value_of, entry_on, back_to, all_at_0, chosen, HasClosed, decision}
+use Rattle.search_values.specs.Nogoods.{Nogood, IsStruck, Gives, NoneUnit}
+use Rattle.search_values.specs.Instances.{Kind, Plain, Choice, Constraint, Instance, all_in, none_in, head_taken, Rules}
+use Rattle.search_values.specs.Tables.{Made, nogoods_of}
 use Rattle.search_theory.specs.States.{Named, BodyOf, Phase, Free, MustLearn, Found, MustStrike, MustJump, Over, State, IsName, Agrees, Names, KindNames, Denotes, WasFound, AreUserAtoms, IsOpen, IsSound, IsActive, NoneActive, IsStuck, IsFull, AreTrueUserAtoms}
-use Rattle.search_theory.specs.Events.{Analysed, Justified, Decisions, Enumerated, Event, NameTerm, NameAtom, NameBody, Number, Make, Put, Choose, Close, Strike, Learn, Justify, Back, Show, Pass, phase_struck, phase_learned, MayStrike, decision, lits_in, lits_at, happens, BodyIsNext, Allowed}
+use Rattle.search_theory.specs.Events.{Analysed, Justified, Decisions, Enumerated, Event, NameTerm, NameAtom, NameBody, Number, Make, Put, Choose, Close, Strike, Learn, Justify, Back, Show, Pass, phase_struck, phase_learned, MayStrike, lits_in, lits_at, happens, BodyIsNext, Allowed}
 use Rattle.search_theory.specs.Journals.{start, replay, Legal, IsFinished}
-use Rattle.search_theory.proofs.Basics.{in_single, get_left, get_last, get_in, bool_cases}
+use Rattle.search_values.proofs.Basics.{in_single, get_left, get_last, get_in, bool_cases}
 use Rattle.search_theory.proofs.Meaning.{Meaning, OfAtom, OfBody, meaning_true, IsBody, Means, means_grows, truth_means, Grows, Known, known_grows, Later, AllKnown, sound_later}
 use Rattle.search_theory.proofs.Stack.{since_closed, Complete, GoodEntry, Good, agrees_all, struck_blocks, put_follows, choose_follows, close_follows, good_back, closed_complete, chosen_known, good_later, struck_at_0_blocks, all_at_0-hold}
 use Rattle.search_theory.proofs.Central.{GoodMade, Valid, names_in, central}

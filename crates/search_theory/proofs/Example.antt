@@ -2,9 +2,11 @@
 use Rattle.std.proofs.Common.{◌≡◌, ℕ, suc, zero, ◌⊎◌, true, false, List, [], ◌∷◌, ◌++◌, refl, sym, ◌∙◌, ap, subst, inl, inr, arith}
 use Rattle.std.specs.Prelude.{Option, Some, None, nat_eq, slice_get}
 use Rattle.lists.specs.Lists.{◌∈◌, SameSet}
-use Rattle.search_theory.specs.Values.{Value, True, MustBe, False, Given, Closed, Entry, lit, value_of, back_to, HasClosed}
-use Rattle.search_theory.specs.Instances.{Plain, Instance}
-use Rattle.search_theory.specs.Tables.{Made}
+use Rattle.search_values.specs.declared.entry.Why.TheVariants.{Given, Closed}
+use Rattle.search_values.specs.declared.entry.Entry.{Entry}
+use Rattle.search_values.specs.Values.{Value, True, MustBe, False, lit, value_of, back_to, HasClosed}
+use Rattle.search_values.specs.Instances.{Plain, Instance}
+use Rattle.search_values.specs.Tables.{Made}
 use Rattle.search_theory.specs.States.{AtomNode, Named, BodyOf, State, IsUp, IsActive, IsMade, IsStuck, IsFull, AreTrueUserAtoms}
 use Rattle.search_theory.specs.Events.{Decisions, Enumerated, Event, NameAtom, NameBody, Make, Put, Choose, Strike, Learn, Back, Show, NoneStuck, Allowed}
 use Rattle.search_theory.specs.Journals.{replay, Legal}

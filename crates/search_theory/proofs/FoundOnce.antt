@@ -3,16 +3,16 @@ use Rattle.std.proofs.Common.{◌≡◌, ℕ, ◌⊎◌, Bool, true, false, List
 use Rattle.std.specs.Prelude.{Some, None}
 use Rattle.lists.specs.Lists.{◌∈◌, SameSet}
 use Rattle.lists.proofs.ListLemmas.{∈-append_left, ∈-append_right}
-use Rattle.search_theory.specs.Values.{Lit, chosen}
-use Rattle.search_theory.specs.Nogoods.{Nogood}
-use Rattle.search_theory.specs.Instances.{Rules, IsExtension}
-use Rattle.search_theory.specs.Tables.{nogoods_of}
+use Rattle.search_values.specs.Values.{Lit, chosen}
+use Rattle.search_values.specs.Nogoods.{Nogood}
+use Rattle.search_values.specs.Instances.{Rules, IsExtension}
+use Rattle.search_values.specs.Tables.{nogoods_of}
 use Rattle.search_theory.specs.States.{Named, Free, Found, State, IsName, truth, Agrees, WasFound, AreUserAtoms, IsFull, AreTrueUserAtoms}
 use Rattle.search_theory.specs.Events.{Analysed, Justified, Decisions, Enumerated, Event, NameTerm, NameAtom, NameBody, Number, Make, Put, Choose, Close, Strike, Learn, Justify, Back, Show, Pass, happens, Allowed}
 use Rattle.search_theory.specs.Journals.{replay, Legal}
 use Rattle.search_theory.proofs.Meaning.{means_grows, truth_means, Known, truth_grows, AllKnown}
 use Rattle.search_theory.proofs.Stack.{chosen_known}
-use Rattle.search_theory.proofs.Tables.{nogood}
+use Rattle.search_values.proofs.Tables.{nogood}
 use Rattle.search_theory.proofs.Central.{Valid}
 use Rattle.search_theory.proofs.Events.{legal_safe, means_agree, named_valued}
 use Rattle.search_theory.proofs.Support.{Founds, legal_founds}

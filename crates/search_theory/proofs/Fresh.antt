@@ -3,16 +3,18 @@ use Rattle.std.proofs.Common.{◌≡◌, ℕ, ◌+◌, ◌⊎◌, Bool, true, fa
 use Rattle.std.specs.Prelude.{Option, Some, None, nat_le, slice_get}
 use Rattle.lists.specs.Lists.{◌∈◌, ◌⊆◌}
 use Rattle.lists.proofs.ListLemmas.{∈-append_left, ∈-append_right, ∈-append_cases}
-use Rattle.search_theory.specs.Values.{Value, True, MustBe, False, Lit, Chosen, Entry, is_up, lit, value_of, Holds, opened, level_of, entry_on, back_to, all_at_0, chosen_with, chosen}
-use Rattle.search_theory.specs.Nogoods.{Nogood, IsStruck, Gives}
-use Rattle.search_theory.specs.Instances.{Kind, Plain, Choice, Constraint, Instance, Rules}
-use Rattle.search_theory.specs.Tables.{Made, BodyFits, lits_of, set_of, each_with, with_body, table_of, nogoods_of}
+use Rattle.search_values.specs.declared.entry.Why.TheVariants.{Chosen}
+use Rattle.search_values.specs.declared.entry.Entry.{Entry}
+use Rattle.search_values.specs.Values.{Value, True, MustBe, False, Lit, is_up, lit, value_of, Holds, opened, level_of, entry_on, back_to, all_at_0, chosen_with, chosen, decision}
+use Rattle.search_values.specs.Nogoods.{Nogood, IsStruck, Gives}
+use Rattle.search_values.specs.Instances.{Kind, Plain, Choice, Constraint, Instance, Rules}
+use Rattle.search_values.specs.Tables.{Made, BodyFits, lits_of, set_of, each_with, with_body, table_of, nogoods_of}
 use Rattle.search_theory.specs.States.{Named, BodyOf, Phase, Free, MustLearn, Found, MustStrike, MustJump, Over, State, IsName, KindNames, IsActive}
-use Rattle.search_theory.specs.Events.{Analysed, Justified, Decisions, Enumerated, Event, NameTerm, NameAtom, NameBody, Number, Make, Put, Choose, Close, Strike, Learn, Justify, Back, Show, Pass, phase_struck, phase_learned, MayStrike, decision, lits_at, happens, Allowed}
+use Rattle.search_theory.specs.Events.{Analysed, Justified, Decisions, Enumerated, Event, NameTerm, NameAtom, NameBody, Number, Make, Put, Choose, Close, Strike, Learn, Justify, Back, Show, Pass, phase_struck, phase_learned, MayStrike, lits_at, happens, Allowed}
 use Rattle.search_theory.specs.Journals.{replay, Legal}
-use Rattle.search_theory.proofs.Basics.{in_single, get_left, get_last, value_cases, some_or_all}
+use Rattle.search_values.proofs.Basics.{in_single, get_left, get_last, value_cases, some_or_all}
 use Rattle.search_theory.proofs.Stack.{GoodEntry, Good, chosen_with-more, chosen_with-cases, good_back}
-use Rattle.search_theory.proofs.Tables.{nogood, set_of-is, set_of-all, lits_of-in}
+use Rattle.search_values.proofs.Tables.{nogood, set_of-is, set_of-all, lits_of-in}
 use Rattle.search_theory.proofs.Central.{GoodMade, Valid, names_in}
 use Rattle.search_theory.proofs.Events.{legal_safe}
 

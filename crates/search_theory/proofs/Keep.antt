@@ -3,15 +3,15 @@ use Rattle.std.proofs.Common.{◌≡◌, ℕ, ◌⊎◌, Bool, true, false, List
 use Rattle.std.specs.Prelude.{Option, Some, None}
 use Rattle.lists.specs.Lists.{◌∈◌}
 use Rattle.lists.proofs.ListLemmas.{∈-append_cases}
-use Rattle.search_theory.specs.Values.{Lit, lit, chosen, HasClosed}
-use Rattle.search_theory.specs.Nogoods.{Nogood}
-use Rattle.search_theory.specs.Instances.{Kind, Plain, Choice, Constraint, Instance, Rules, IsExtension}
-use Rattle.search_theory.specs.Tables.{Made, lits_of, once, set_of, each_with, with_body, table_of}
+use Rattle.search_values.specs.Values.{Lit, lit, chosen, HasClosed}
+use Rattle.search_values.specs.Nogoods.{Nogood}
+use Rattle.search_values.specs.Instances.{Kind, Plain, Choice, Constraint, Instance, Rules, IsExtension}
+use Rattle.search_values.specs.Tables.{Made, lits_of, once, set_of, each_with, with_body, table_of}
 use Rattle.search_theory.specs.States.{AtomNode, Named, BodyOf, Phase, Free, MustLearn, Found, MustStrike, MustJump, Over, State, IsName, WasFound, AreUserAtoms, IsOpen, IsSound}
-use Rattle.search_theory.proofs.Basics.{get_left, get_snoc}
+use Rattle.search_values.proofs.Basics.{get_left, get_snoc}
 use Rattle.search_theory.proofs.Meaning.{Grows, denotes_grows, known_grows, truth_grows, Later, SameSets, AllKnown, sound_later}
 use Rattle.search_theory.proofs.Stack.{Good, good_later}
-use Rattle.search_theory.proofs.Tables.{set_of-lits, in_lits_of}
+use Rattle.search_values.proofs.Tables.{set_of-lits, in_lits_of}
 use Rattle.search_theory.proofs.Central.{GoodMade, Valid}
 
 -- no open set agrees with what is chosen

@@ -3,17 +3,18 @@ use Rattle.std.proofs.Common.{◌≡◌, ℕ, ◌+◌, ◌<◌, ◌⊎◌, Bool,
 use Rattle.std.specs.Prelude.{Option, Some, None, nat_eq, nat_le, is_none}
 use Rattle.lists.specs.Lists.{◌∈◌}
 use Rattle.lists.proofs.ListLemmas.{∈-append_cases}
-use Rattle.search_theory.specs.Values.{True, Lit, Entry, lit, value_of, opened, level_of, back_to, first_level}
-use Rattle.search_theory.specs.Nogoods.{Nogood}
-use Rattle.search_theory.specs.Instances.{Plain, Instance, Rules}
-use Rattle.search_theory.specs.Tables.{lits_of, set_of, each_with, table_of}
+use Rattle.search_values.specs.declared.entry.Entry.{Entry}
+use Rattle.search_values.specs.Values.{True, Lit, lit, value_of, opened, level_of, back_to, first_level}
+use Rattle.search_values.specs.Nogoods.{Nogood}
+use Rattle.search_values.specs.Instances.{Plain, Instance, Rules}
+use Rattle.search_values.specs.Tables.{lits_of, set_of, each_with, table_of}
 use Rattle.search_theory.specs.States.{Named, State, IsName, IsSound, AreTrueUserAtoms, IsSetOf}
 use Rattle.search_theory.specs.Events.{Analysed, Justified, Decisions, Enumerated, Event, NameTerm, NameAtom, NameBody, Number, Make, Put, Choose, Close, Strike, Learn, Justify, Back, Show, Pass, happens, Allowed}
 use Rattle.search_theory.specs.Journals.{replay, Legal}
-use Rattle.search_theory.proofs.Basics.{get_in, and_intro, nat_eq-same}
+use Rattle.search_values.proofs.Basics.{get_in, and_intro, nat_eq-same}
 use Rattle.search_theory.proofs.Meaning.{OfAtom, OfBody, Grows, Known, sound_later}
 use Rattle.search_theory.proofs.Stack.{agrees_all, closed_complete}
-use Rattle.search_theory.proofs.Tables.{set_of-lits, in_lits_of}
+use Rattle.search_values.proofs.Tables.{set_of-lits, in_lits_of}
 use Rattle.search_theory.proofs.Central.{Valid, central}
 use Rattle.search_theory.proofs.Covers.{justified_sound, not_covered}
 use Rattle.search_theory.proofs.Keep.{PhaseHolds}

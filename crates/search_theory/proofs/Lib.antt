@@ -1,7 +1,5 @@
-pub mod Basics
 pub mod Meaning
 pub mod Stack
-pub mod Tables
 pub mod Central
 pub mod Instances
 pub mod Keep

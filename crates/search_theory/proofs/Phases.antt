@@ -1,14 +1,15 @@
 -- What has to come next may come.
 use Rattle.std.proofs.Common.{◌≡◌, ℕ, ◌⊎◌, Bool, true, false, List, [], ◌∷◌, ◌++◌, length, refl, sym, ◌∙◌, ap, subst, inl, inr}
 use Rattle.std.specs.Prelude.{Some, None, slice_get}
-use Rattle.search_theory.specs.Values.{Value, MustBe, False, Lit, Entry, back_to, all_at_0, chosen}
-use Rattle.search_theory.specs.Nogoods.{IsLeft, Gives}
-use Rattle.search_theory.specs.Instances.{Rules}
+use Rattle.search_values.specs.declared.entry.Entry.{Entry}
+use Rattle.search_values.specs.Values.{Value, MustBe, False, Lit, back_to, all_at_0, chosen}
+use Rattle.search_values.specs.Nogoods.{IsLeft, Gives}
+use Rattle.search_values.specs.Instances.{Rules}
 use Rattle.search_theory.specs.States.{Phase, Free, MustLearn, Found, MustStrike, MustJump, Over, State}
 use Rattle.search_theory.specs.Events.{Analysed, Justified, Decisions, Enumerated, Event, NameTerm, NameAtom, NameBody, Number, Make, Put, Choose, Close, Strike, Learn, Justify, Back, Show, Pass, phase_struck, phase_learned, MayStrike, lits_in, lits_at, happens, IsNew, Allowed}
 use Rattle.search_theory.specs.Journals.{replay, Legal}
-use Rattle.search_theory.proofs.Basics.{get_last, lit_is}
-use Rattle.search_theory.proofs.Tables.{nogood}
+use Rattle.search_values.proofs.Basics.{get_last, lit_is}
+use Rattle.search_values.proofs.Tables.{nogood}
 use Rattle.search_theory.proofs.Central.{Valid}
 use Rattle.search_theory.proofs.Events.{legal_safe}
 use Rattle.search_theory.proofs.Fresh.{NewlyChosen, ChosenAreBodies, chosen_holds, superset_of_none, legal_newly}

@@ -2,12 +2,14 @@
 use Rattle.std.proofs.Common.{◌≡◌, ℕ, ◌+◌, ◌⊎◌, Bool, true, false, cond, List, [], ◌∷◌, ◌++◌, length, refl, sym, ◌∙◌, ap, subst, inl, inr}
 use Rattle.std.specs.Prelude.{Option, Some, nat_le, slice_get}
 use Rattle.lists.specs.Lists.{◌∈◌}
-use Rattle.search_theory.specs.Values.{MustBe, False, Closed, Entry, value_of, opened, level_of, back_to, HasClosed, MustSinceClosed}
-use Rattle.search_theory.specs.Instances.{Rules}
+use Rattle.search_values.specs.declared.entry.Why.TheVariants.{Closed}
+use Rattle.search_values.specs.declared.entry.Entry.{Entry}
+use Rattle.search_values.specs.Values.{MustBe, False, value_of, opened, level_of, back_to, HasClosed, MustSinceClosed}
+use Rattle.search_values.specs.Instances.{Rules}
 use Rattle.search_theory.specs.States.{AtomNode, Named, BodyOf, State}
 use Rattle.search_theory.specs.Events.{Event, NameTerm, NameAtom, NameBody, Number, Make, Put, Choose, Close, Strike, Learn, Justify, Back, Show, Pass, happens, Allowed}
 use Rattle.search_theory.specs.Journals.{replay, Legal}
-use Rattle.search_theory.proofs.Basics.{get_snoc, value_cases, get_none}
+use Rattle.search_values.proofs.Basics.{get_snoc, value_cases, get_none}
 use Rattle.search_theory.proofs.Meaning.{OfAtom, OfBody, Known}
 use Rattle.search_theory.proofs.Stack.{Good, value_known}
 use Rattle.search_theory.proofs.Central.{Valid}

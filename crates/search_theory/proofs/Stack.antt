@@ -2,13 +2,15 @@
 use Rattle.std.proofs.Common.{◌≡◌, ℕ, ◌+◌, ◌≤◌, ◌⊎◌, Bool, true, false, ◌&&◌, cond, List, [], ◌∷◌, refl, sym, ◌∙◌, ap, subst, inl, inr, arith}
 use Rattle.std.specs.Prelude.{Option, Some, None, nat_eq, nat_le, is_none}
 use Rattle.lists.specs.Lists.{◌∈◌}
-use Rattle.search_theory.specs.Values.{HasClosed, MustSinceClosed, Value, True, MustBe, False, Lit, Why, Given, Chosen, Closed, Entry, is_up, lit, value_of, Holds, full_value, HoldsFully, opened, level_of, entry_on, back_to, first_level, all_at_0, chosen_with, chosen}
-use Rattle.search_theory.specs.Nogoods.{Nogood, IsStruck, Gives}
-use Rattle.search_theory.specs.Instances.{Rules}
-use Rattle.search_theory.specs.Tables.{once}
+use Rattle.search_values.specs.declared.entry.Why.{Why}
+use Rattle.search_values.specs.declared.entry.Why.TheVariants.{Given, Chosen, Closed}
+use Rattle.search_values.specs.declared.entry.Entry.{Entry}
+use Rattle.search_values.specs.Values.{HasClosed, MustSinceClosed, Value, True, MustBe, False, Lit, is_up, lit, value_of, Holds, full_value, HoldsFully, opened, level_of, entry_on, back_to, first_level, all_at_0, chosen_with, chosen, decision}
+use Rattle.search_values.specs.Nogoods.{Nogood, IsStruck, Gives}
+use Rattle.search_values.specs.Instances.{Rules}
+use Rattle.search_values.specs.Tables.{once}
 use Rattle.search_theory.specs.States.{Named, State, IsName, truth, Agrees, IsOpen, IsSound}
-use Rattle.search_theory.specs.Events.{decision}
-use Rattle.search_theory.proofs.Basics.{and_left, and_right, and_intro, bool_cases, nat_eq-same, nat_eq-true, value_cases}
+use Rattle.search_values.proofs.Basics.{and_left, and_right, and_intro, bool_cases, nat_eq-same, nat_eq-true, value_cases}
 use Rattle.search_theory.proofs.Meaning.{OfAtom, truth_means, Known, known_grows, Later, SameSets, AllKnown, agrees_earlier}
 
 -- each open set that agrees with what is chosen has only atoms that are true

@@ -3,16 +3,17 @@ use Rattle.std.proofs.Common.{◌≡◌, ℕ, ◌+◌, ◌⊎◌, Bool, true, fa
 use Rattle.std.specs.Prelude.{Option, Some, None, nat_le, slice_get}
 use Rattle.lists.specs.Lists.{◌∈◌}
 use Rattle.lists.proofs.ListLemmas.{∈-append_left, ∈-append_right, ∈-append_cases}
-use Rattle.search_theory.specs.Values.{Value, True, MustBe, False, Lit, Entry, lit, value_of, HoldsFully, opened, level_of, back_to}
-use Rattle.search_theory.specs.Nogoods.{Nogood, Rises, Gives}
-use Rattle.search_theory.specs.Instances.{Kind, Plain, Choice, Constraint, IsHead, Rules}
-use Rattle.search_theory.specs.Tables.{Made, lits_of, once, set_of, each_with, with_body, table_of, nogoods_of}
+use Rattle.search_values.specs.declared.entry.Entry.{Entry}
+use Rattle.search_values.specs.Values.{Value, True, MustBe, False, Lit, lit, value_of, HoldsFully, opened, level_of, back_to}
+use Rattle.search_values.specs.Nogoods.{Nogood, Rises, Gives}
+use Rattle.search_values.specs.Instances.{Kind, Plain, Choice, Constraint, IsHead, Rules}
+use Rattle.search_values.specs.Tables.{Made, lits_of, once, set_of, each_with, with_body, table_of, nogoods_of}
 use Rattle.search_theory.specs.States.{Named, BodyOf, State, IsName, KindNames}
 use Rattle.search_theory.specs.Events.{Analysed, Justified, Decisions, Enumerated, Event, NameTerm, NameAtom, NameBody, Number, Make, Put, Choose, Close, Strike, Learn, Justify, Back, Show, Pass, happens, Allowed}
 use Rattle.search_theory.specs.Journals.{replay, Legal}
-use Rattle.search_theory.proofs.Basics.{in_single, get_in, value_cases}
+use Rattle.search_values.proofs.Basics.{in_single, get_in, value_cases}
 use Rattle.search_theory.proofs.Stack.{Good, true_stays}
-use Rattle.search_theory.proofs.Tables.{nogood, once-to, set_of-is, lits_of-in}
+use Rattle.search_values.proofs.Tables.{nogood, once-to, set_of-is, lits_of-in}
 use Rattle.search_theory.proofs.Central.{Valid}
 use Rattle.search_theory.proofs.Events.{legal_safe}
 

@@ -1,10 +1,10 @@
 -- Covers: atoms that no core instance derives where some literals are true, and the nogood that says so of the first of them.
 use Rattle.std.specs.Prelude.{◌≡◌, ℕ, ◌⊎◌, Bool, true, false, List, ◌∷◌, Option, Some, None}
 use Rattle.lists.specs.Lists.{◌∈◌}
-use Rattle.search_theory.specs.Values.{MustBe, Lit, lit, value_of, Holds, HasClosed}
-use Rattle.search_theory.specs.Nogoods.{NoneStruck, NoneUnit}
-use Rattle.search_theory.specs.Instances.{Instance, IsHead, Rules, IsExtension}
-use Rattle.search_theory.specs.Tables.{Made}
+use Rattle.search_values.specs.Values.{MustBe, Lit, lit, value_of, Holds, HasClosed}
+use Rattle.search_values.specs.Nogoods.{NoneStruck, NoneUnit}
+use Rattle.search_values.specs.Instances.{Instance, IsHead, Rules, IsExtension}
+use Rattle.search_values.specs.Tables.{Made}
 use Rattle.search_theory.specs.States.{Free, State, IsName}
 
 -- why this instance derives none of the atoms where the literals are true

@@ -5,10 +5,12 @@ use Rattle.alpha_outside.specs.declared.node.Node.{Node}
 use Rattle.alpha_outside.specs.declared.node.Node.TheVariants.{Int, Symbol, Text, Fun}
 pub use Rattle.alpha_outside.specs.declared.event.How.{How}
 pub use Rattle.alpha_outside.specs.declared.event.How.TheVariants.{Analysed, Justified, Decisions, Enumerated}
-use Rattle.search_theory.specs.Values.{Value, True, MustBe, False, Lit, Given, Chosen, Closed, Entry, value_of, level_of, entry_on, back_to, all_at_0, chosen, HasClosed}
-use Rattle.search_theory.specs.Nogoods.{Nogood, IsStruck, Gives, NoneStruck, NoneUnit}
-use Rattle.search_theory.specs.Instances.{Instance, Rules}
-use Rattle.search_theory.specs.Tables.{Made, BodyFits, nogoods_of}
+use Rattle.search_values.specs.declared.entry.Why.TheVariants.{Given, Chosen, Closed}
+use Rattle.search_values.specs.declared.entry.Entry.{Entry}
+use Rattle.search_values.specs.Values.{Value, True, MustBe, False, Lit, value_of, level_of, entry_on, back_to, all_at_0, chosen, HasClosed, decision}
+use Rattle.search_values.specs.Nogoods.{Nogood, IsStruck, Gives, NoneStruck, NoneUnit}
+use Rattle.search_values.specs.Instances.{Instance, Rules}
+use Rattle.search_values.specs.Tables.{Made, BodyFits, nogoods_of}
 use Rattle.search_theory.specs.Covers.{MayJustify}
 use Rattle.search_theory.specs.States.{Named, BodyOf, Phase, Free, MustLearn, Found, MustStrike, MustJump, Over, State, IsName, IsPending, Denotes, IsUp, IsActive, IsMade, IsSettled, IsStuck, IsFull, AreTrueUserAtoms, IsSetOf}
 
@@ -78,11 +80,6 @@ NoneStuck core s = (x : ℕ) → ¬ IsStuck core s x
 -- the state with one more entry
 abbrev pub pushed : {N A K : Type 0} → State N A K → Entry → State N A K
 pushed s e = record s { stack = e ∷ s.stack }
-
--- the value that a decision gives
-abbrev pub decision : Bool → Value
-decision true = True
-decision false = False
 
 -- the literals of a nogood, where there is one
 abbrev pub lits_in : Option Nogood → List Lit

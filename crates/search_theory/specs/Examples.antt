@@ -8,12 +8,12 @@ use Rattle.alpha_outside.specs.declared.maker.Maker.TheVariants as maker
 use Rattle.alpha_outside.specs.declared.event.Event as outside
 use Rattle.alpha_outside.specs.declared.event.Event.TheVariants as say
 use Rattle.alpha_outside.specs.Preds.{pred_eq}
-use Rattle.search_theory.specs.Values.{True, MustBe, False, lit}
-use Rattle.search_theory.specs.Instances.{Plain, Instance, Rules}
+use Rattle.search_values.specs.Values.{True, MustBe, False, lit}
+use Rattle.search_values.specs.Instances.{Plain, Instance, Rules}
 use Rattle.search_theory.specs.States.{State}
 use Rattle.search_theory.specs.Events.{Event, Decisions, Enumerated}
 use Rattle.search_theory.specs.Journals.{replay, Legal, SaysAll, IsFinished}
-use Rattle.search_theory.specs.Numberless.{Ground, numberless}
+use Rattle.search_values.specs.Numberless.{Ground, numberless}
 
 -- the instances of the two rules; atom 0 is a, and atom 1 is b
 abbrev pub example_instance : ℕ → Option (Instance ℕ)

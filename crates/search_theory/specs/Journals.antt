@@ -5,9 +5,9 @@ use Rattle.alpha_outside.specs.declared.event.Event as outside
 use Rattle.alpha_outside.specs.declared.event.Event.TheVariants as say
 use Rattle.alpha_outside.specs.declared.pattern.Pattern.{Pattern}
 use Rattle.alpha_outside.specs.declared.pattern.PatternTerm.TheVariants.{Known}
-use Rattle.search_theory.specs.Values.{chosen}
-use Rattle.search_theory.specs.Instances.{Rules}
-use Rattle.search_theory.specs.Tables.{Made}
+use Rattle.search_values.specs.Values.{chosen}
+use Rattle.search_values.specs.Instances.{Rules}
+use Rattle.search_values.specs.Tables.{Made}
 use Rattle.search_theory.specs.States.{Free, Found, Over, State}
 use Rattle.search_theory.specs.Events.{Justified, Event, NameTerm, NameAtom, NameBody, Number, Make, Put, Choose, Close, Strike, Learn, Justify, Back, Show, Pass, happens, Allowed}
 

@@ -1,10 +1,11 @@
 -- The laws of the search, over all rules and all legal journals.
 use Rattle.std.specs.Prelude.{◌≡◌, ℕ, ◌+◌, ◌⊎◌, Bool, true, List, [], ◌∷◌, ◌++◌, Some, slice_get}
 use Rattle.lists.specs.Lists.{◌∈◌, SameSet}
-use Rattle.search_theory.specs.Values.{Value, True, MustBe, is_up, Lit, lit, Entry, value_of, opened, level_of, back_to, first_level, chosen, HasClosed, MustSinceClosed}
-use Rattle.search_theory.specs.Nogoods.{Nogood}
-use Rattle.search_theory.specs.Instances.{Plain, Rules, IsExtension, IsAnswerUnder}
-use Rattle.search_theory.specs.Tables.{Made, nogoods_of}
+use Rattle.search_values.specs.declared.entry.Entry.{Entry}
+use Rattle.search_values.specs.Values.{Value, True, MustBe, is_up, Lit, lit, value_of, opened, level_of, back_to, first_level, chosen, HasClosed, MustSinceClosed}
+use Rattle.search_values.specs.Nogoods.{Nogood}
+use Rattle.search_values.specs.Instances.{Plain, Rules, IsExtension, IsAnswerUnder}
+use Rattle.search_values.specs.Tables.{Made, nogoods_of}
 use Rattle.search_theory.specs.States.{BodyOf, Phase, Free, MustLearn, Found, MustStrike, MustJump, Over, State, IsName, truth, Agrees, WasFound, AreUserAtoms, IsOpen, IsSound, IsSettled, IsFull, AreTrueUserAtoms, IsSetOf}
 use Rattle.search_theory.specs.Covers.{IsCover, MayJustify}
 use Rattle.search_theory.specs.Events.{Event, Close, Strike, Learn, Back, How, Decisions, Enumerated, Show, Pass, MayLearn, IsNew, Allowed}

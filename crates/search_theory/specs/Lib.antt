@@ -1,11 +1,6 @@
-pub mod Values
-pub mod Nogoods
-pub mod Instances
-pub mod Tables
 pub mod States
 pub mod Covers
 pub mod Events
 pub mod Journals
 pub mod Laws
-pub mod Numberless
 pub mod Examples

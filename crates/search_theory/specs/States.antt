@@ -2,10 +2,11 @@
 use Rattle.std.specs.Prelude.{◌≡◌, ℕ, ◌⊎◌, Bool, true, false, List, [], ◌∷◌, Option, Some, None, slice_get, length}
 use Rattle.lists.specs.Lists.{◌∈◌}
 use Rattle.alpha_outside.specs.declared.node.Node.{Node}
-use Rattle.search_theory.specs.Values.{Value, True, MustBe, Lit, lit, Entry, value_of, Holds, MustSinceClosed}
-use Rattle.search_theory.specs.Nogoods.{Nogood, NoneStruck, NoneUnit}
-use Rattle.search_theory.specs.Instances.{Kind, Plain, Choice, Constraint, Instance, body_true, Rules, IsExtension, IsAnswerUnder}
-use Rattle.search_theory.specs.Tables.{Made}
+use Rattle.search_values.specs.declared.entry.Entry.{Entry}
+use Rattle.search_values.specs.Values.{Value, True, MustBe, Lit, lit, value_of, Holds, MustSinceClosed}
+use Rattle.search_values.specs.Nogoods.{Nogood, NoneStruck, NoneUnit}
+use Rattle.search_values.specs.Instances.{Kind, Plain, Choice, Constraint, Instance, body_true, Rules, IsExtension, IsAnswerUnder}
+use Rattle.search_values.specs.Tables.{Made}
 
 -- what the id of an atom stands for: a named atom, or the body of the instance with this number
 pub data AtomNode (A : Type 0) : Type 0 where

@@ -3,10 +3,10 @@ use Rattle.std.specs.Prelude.{◌≡◌, ℕ, ◌+◌, ◌<◌, ◌≤◌, min, 
 use Rattle.std.specs.Option.{option_map}
 use Rattle.alpha_outside.specs.declared.literal.Value.{Value}
 use Rattle.alpha_outside.specs.declared.literal.Value.TheVariants.{True, MustBe, False}
-use Rattle.search_theory.specs.declared.entry.Why.{Why}
-use Rattle.search_theory.specs.declared.entry.Why.TheVariants.{Given, Chosen, Closed}
-use Rattle.search_theory.specs.declared.entry.Entry.{Entry}
-use Rattle.search_theory.specs.Values.{value_of, opened, level_of, entry_on, back_to, first_level}
+use Rattle.search_values.specs.declared.entry.Why.{Why}
+use Rattle.search_values.specs.declared.entry.Why.TheVariants.{Given, Chosen, Closed}
+use Rattle.search_values.specs.declared.entry.Entry.{Entry}
+use Rattle.search_values.specs.Values.{value_of, opened, level_of, entry_on, back_to, first_level}
 
 pub record Trailed : Type 0 where
   -- the assigned atoms, the newest entry first

@@ -1,14 +1,13 @@
 ghost use Rattle.std.specs.Prelude.{◌≡◌, ℕ, ◌+◌, ◌*◌, ◌<◌, ◌≤◌, min, length, reverse, take, List, [], ◌∷◌, OnOk, OnErr, vec_len, vec_capacity, true, false};
 ghost use Rattle.alpha_outside.specs.declared.literal.Value.TheVariants.{True, MustBe, False};
-ghost use Rattle.search_theory.specs.declared.entry.Why.TheVariants.{Given, Chosen, Closed};
-ghost use Rattle.search_theory.specs.declared.entry.Entry.{Entry};
-ghost use Rattle.search_theory.specs.Values.{value_of, level_of, opened};
-ghost use Rattle.search_theory.specs.Events.{decision};
+ghost use Rattle.search_values.specs.declared.entry.Why.TheVariants.{Given, Chosen, Closed};
+ghost use Rattle.search_values.specs.declared.entry.Entry.{Entry};
+ghost use Rattle.search_values.specs.Values.{value_of, level_of, opened, decision};
 ghost use Rattle.trail.specs.Assigning.{Trailed, MayBecome, MayRise, MayDecide, IsStackOf, full_by, true_by, first_level_of, order_of, visits_with, assigned, jumped};
 
 use crate::slot::Slot;
 use alpha_outside::{AtomId, NogoodId, OutOfMemory, Value};
-use search_theory::{Entry, Why};
+use search_values::{Entry, Why};
 use std::alloc::Global;
 use std::marker::Model;
 

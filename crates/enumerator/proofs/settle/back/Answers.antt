@@ -1,5 +1,5 @@
 use Rattle.std.proofs.Common.{◌<◌, ◌∙◌, sym, ap, subst, false}
-use Rattle.search_theory.specs.Values.{level_of, back_to}
+use Rattle.search_values.specs.Values.{level_of, back_to}
 use Rattle.search_theory.specs.States as phase
 use Rattle.ground_search.specs.Searching.{Searching}
 use Rattle.enumerator.proofs.Choosing.{jump_low}

@@ -1,6 +1,6 @@
 use Rattle.std.proofs.Common.{◌∙◌, sym, ap}
 use Rattle.std.proofs.lemmas.Result.{err_from_is_err_and}
-use Rattle.search_theory.specs.Values.{chosen}
+use Rattle.search_values.specs.Values.{chosen}
 use Rattle.ground_search.specs.Searching.{Searching}
 use Rattle.enumerator.proofs.Standing.{round_fault}
 use Rattle.enumerator.proofs.Stepping.{err_on}

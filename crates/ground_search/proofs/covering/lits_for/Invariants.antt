@@ -1,5 +1,5 @@
 use Rattle.std.proofs.Common.{◌≡◌, ◌++◌, drop, false}
-use Rattle.search_theory.specs.Tables.{lits_of}
+use Rattle.search_values.specs.Tables.{lits_of}
 use Rattle.ground_search.specs.Underivable.{justified_lits}
 use Rattle.ground_search.proofs.covering.lits_for.Given as goal
 

@@ -1,6 +1,6 @@
 use Rattle.std.proofs.Common.{rules, ◌≡◌, sym, subst, true, false, ◌++◌}
 use Rattle.lists.specs.Lists.{Each}
-use Rattle.search_theory.specs.Tables.{lits_of}
+use Rattle.search_values.specs.Tables.{lits_of}
 use Rattle.ground_search.specs.Searching.{AreBelow, LitsAreBelow}
 use Rattle.ground_search.specs.Drafts.{IsDraft}
 use Rattle.ground_search.proofs.Drafting.{below_append, below_lits_of}

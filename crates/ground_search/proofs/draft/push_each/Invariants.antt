@@ -1,6 +1,6 @@
 use Rattle.std.proofs.Common.{◌≡◌, ◌<◌, ℕ, ◌++◌, map, drop}
 use Rattle.lists.specs.Lists.{Each}
-use Rattle.search_theory.specs.Tables.{each_with}
+use Rattle.search_values.specs.Tables.{each_with}
 use Rattle.ground_search.specs.Searching.{AreBelow}
 use Rattle.ground_search.specs.Drafts.{IsDraft, nogood_of}
 use Rattle.ground_search.proofs.draft.push_each.Given as goal

@@ -1,5 +1,5 @@
 use Rattle.std.proofs.Common.{◌≡◌, ◌++◌, drop}
-use Rattle.search_theory.specs.Tables.{lits_of}
+use Rattle.search_values.specs.Tables.{lits_of}
 use Rattle.ground_search.proofs.draft.push_lits.Given as goal
 
 abbrev pub invariant-loop-atom : goal.invariant-loop-atom

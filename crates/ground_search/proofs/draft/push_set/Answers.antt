@@ -1,6 +1,6 @@
 use Rattle.std.proofs.Common.{◌≡◌, true, false, subst}
 use Rattle.std.specs.Prelude.{MatchOption}
-use Rattle.search_theory.specs.Tables.{both_signs, once}
+use Rattle.search_values.specs.Tables.{both_signs, once}
 use Rattle.nogood_store.specs.Stored.{HasNoAtomTwice}
 use Rattle.ground_search.proofs.Drafting.{pushed_drafts}
 use Rattle.ground_search.proofs.draft.push_set.Goals as goal

@@ -1,6 +1,6 @@
 use Rattle.std.proofs.Common.{true, ◌∙◌}
 use Rattle.lists.proofs.ListLemmas.{Each-at}
-use Rattle.search_theory.specs.Values.{Holds, lit}
+use Rattle.search_values.specs.Values.{Holds, lit}
 use Rattle.ground_search.proofs.Going.{here-in, Each-take_all}
 use Rattle.ground_search.proofs.finding.are_up.Goals as goal
 

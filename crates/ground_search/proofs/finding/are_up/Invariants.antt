@@ -1,6 +1,6 @@
 use Rattle.std.proofs.Common.{take, true}
 use Rattle.lists.specs.Lists.{Each}
-use Rattle.search_theory.specs.Values.{Holds, lit}
+use Rattle.search_values.specs.Values.{Holds, lit}
 use Rattle.ground_search.proofs.finding.are_up.Given as goal
 
 abbrev pub invariant-loop-a : goal.invariant-loop-a

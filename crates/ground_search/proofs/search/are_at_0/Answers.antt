@@ -1,5 +1,5 @@
 use Rattle.std.proofs.Common.{◌&&◌, ap, sym, ◌∙◌, drop, ◌+◌, Bool}
-use Rattle.search_theory.specs.Values.{all_at_0}
+use Rattle.search_values.specs.Values.{all_at_0}
 use Rattle.ground_search.specs.Searching.{is_level_0}
 use Rattle.ground_search.proofs.FieldLemmas.{told_level, at_0_on, lit_there}
 use Rattle.ground_search.proofs.search.are_at_0.Goals as goal

@@ -1,5 +1,5 @@
 use Rattle.std.proofs.Common.{◌≡◌, drop}
-use Rattle.search_theory.specs.Values.{all_at_0}
+use Rattle.search_values.specs.Values.{all_at_0}
 use Rattle.ground_search.proofs.search.are_at_0.Given as goal
 
 abbrev pub invariant-loop-l : goal.invariant-loop-l

@@ -2,7 +2,7 @@ use Rattle.std.proofs.Common.{◌<◌, length, refl, subst}
 use Rattle.std.specs.Prelude.{IfSome, IfNone}
 use Rattle.std.proofs.lemmas.Option.{IfSome_then}
 use Rattle.lists.specs.Lists.{◌∈◌}
-use Rattle.search_theory.specs.Tables.{Made}
+use Rattle.search_values.specs.Tables.{Made}
 use Rattle.search_theory.specs.States.{IsActive}
 use Rattle.search_rules.specs.Tests.{Maker}
 use Rattle.ground_search.specs.contracts.search.Search.{the_view}

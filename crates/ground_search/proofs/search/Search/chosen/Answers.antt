@@ -1,7 +1,7 @@
 use Rattle.std.proofs.Common.{◌≡◌, ◌-◌, ◌++◌, ◌∷◌, [], arith, not, refl, ap, ◌∙◌}
 use denote.Enum.Bare.{sameb}
 use Rattle.alpha_outside.specs.contracts.literal.Value.{the_type}
-use Rattle.search_theory.specs.Values.{Value, True, MustBe, False, lit, is_up}
+use Rattle.search_values.specs.Values.{Value, True, MustBe, False, lit, is_up}
 use Rattle.ground_search.proofs.Chosen.{entry_placed, chosen_step, chosen_skip}
 use Rattle.ground_search.proofs.search.Search.chosen.Goals as goal
 

@@ -1,5 +1,5 @@
 use Rattle.std.proofs.Common.{◌≡◌, ◌≤◌, ◌++◌, length, take, reverse}
-use Rattle.search_theory.specs.Values.{chosen}
+use Rattle.search_values.specs.Values.{chosen}
 use Rattle.ground_search.proofs.search.Search.chosen.Given as goal
 
 abbrev pub invariant-loop-left : goal.invariant-loop-left

@@ -2,7 +2,7 @@ use Rattle.std.proofs.Common.{◌≡◌, ◌⊎◌, ◌<◌, ◌+◌, ℕ, subst
 use Rattle.std.specs.Prelude.{slice_get}
 use Rattle.lists.specs.Lists.{◌∈◌}
 use Rattle.nogood_store.specs.Stored.{Stored, nogood_of}
-use Rattle.search_theory.specs.Values.{Lit}
+use Rattle.search_values.specs.Values.{Lit}
 use Rattle.ground_search.specs.Searching.{Searching, names_of}
 use Rattle.ground_search.specs.Visits.{VisitIs}
 use Rattle.ground_search.specs.Moves.{FoundIs}

@@ -1,6 +1,6 @@
 use Rattle.std.proofs.Common.{◌≡◌, ℕ, Option, ap, ◌∙◌, reverse}
 use Rattle.lists.proofs.ListLemmas.{Each-at}
-use Rattle.search_theory.specs.declared.entry.Why.TheVariants.{Closed}
+use Rattle.search_values.specs.declared.entry.Why.TheVariants.{Closed}
 use Rattle.ground_search.specs.Searching.{Searching}
 use Rattle.ground_search.proofs.Going.{here-in, Each-take_all}
 use Rattle.ground_search.proofs.Chosen.{in_entries, in_stack}

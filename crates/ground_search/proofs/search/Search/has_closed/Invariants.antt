@@ -1,6 +1,6 @@
 use Rattle.std.proofs.Common.{◌≡◌, Option, ℕ, take}
 use Rattle.lists.specs.Lists.{Each}
-use Rattle.search_theory.specs.declared.entry.Why.TheVariants.{Closed}
+use Rattle.search_values.specs.declared.entry.Why.TheVariants.{Closed}
 use Rattle.ground_search.proofs.search.Search.has_closed.Given as goal
 
 abbrev pub invariant-loop-entry : goal.invariant-loop-entry

@@ -1,7 +1,7 @@
 use Rattle.std.proofs.Common.{◌≡◌, ◌<◌, Some, slice_get, ap, subst, sym, ◌∙◌, arith}
 use Rattle.lists.specs.Lists.{Each}
 use Rattle.lists.proofs.ListLemmas.{Each-from}
-use Rattle.search_theory.proofs.Basics.{not_true}
+use Rattle.search_values.proofs.Basics.{not_true}
 use Rattle.ground_search.specs.Searching.{Searching}
 use Rattle.ground_search.specs.Moves.{AreUp}
 use Rattle.ground_search.proofs.search.Search.is_due.Goals as goal

@@ -5,7 +5,7 @@ use Rattle.lists.specs.Lists.{◌∈◌, Each}
 use Rattle.atom_pool.specs.declared.instances.Made.{Made}
 use Rattle.alpha_outside.specs.declared.maker.Maker.TheVariants as say
 use Rattle.core_rules.specs.declared.rules.CoreRule.{CoreRule}
-use Rattle.search_theory.specs.Tables.{nogoods_of}
+use Rattle.search_values.specs.Tables.{nogoods_of}
 use Rattle.alpha_outside.specs.declared.memory.OutOfMemory.{OutOfMemory}
 use Rattle.choice_manager.specs.Active.{with_noted}
 use Rattle.term_pool.proofs.PlaceLemmas.{get-last}

@@ -1,5 +1,5 @@
 use Rattle.std.proofs.Common.{◌≡◌, ◌<◌, ℕ, Some}
-use Rattle.search_theory.specs.Values.{MustBe, value_of}
+use Rattle.search_values.specs.Values.{MustBe, value_of}
 use Rattle.ground_search.specs.Moves.{IsNamed}
 use Rattle.ground_search.proofs.search.Search.must_be.Given as goal
 

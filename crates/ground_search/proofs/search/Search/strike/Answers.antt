@@ -1,7 +1,7 @@
 use Rattle.std.proofs.Common.{List, ap, sym, subst, ◌∙◌}
 use Rattle.alpha_outside.specs.declared.literal.Lit.{Lit}
 use Rattle.search_theory.specs.Events.{phase_struck, lits_at}
-use Rattle.search_theory.specs.Values.{all_at_0}
+use Rattle.search_values.specs.Values.{all_at_0}
 use Rattle.ground_search.specs.Searching.{Searching, LitsAreBelow}
 use Rattle.ground_search.proofs.FieldLemmas.{stored_placed}
 use Rattle.ground_search.proofs.ViewLemmas.{view_struck}

@@ -1,5 +1,5 @@
 use Rattle.std.proofs.Common.{◌≡◌, ◌∙◌, Some, ap, sym, subst, arith}
-use Rattle.search_theory.specs.Values.{True, value_of}
+use Rattle.search_values.specs.Values.{True, value_of}
 use Rattle.ground_search.specs.Searching.{Searching, ids}
 use Rattle.ground_search.specs.Moves.{IsNamed, AreTrueNames}
 use Rattle.ground_search.proofs.Listing.{as_many, names_none, names_more, names_same}

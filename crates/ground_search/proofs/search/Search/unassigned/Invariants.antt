@@ -1,5 +1,5 @@
 use Rattle.std.proofs.Common.{◌≡◌, ◌<◌, ℕ, None}
-use Rattle.search_theory.specs.Values.{value_of}
+use Rattle.search_values.specs.Values.{value_of}
 use Rattle.ground_search.specs.Moves.{IsNamed}
 use Rattle.ground_search.proofs.search.Search.unassigned.Given as goal
 

@@ -4,7 +4,7 @@ use Rattle.std.proofs.Common.{true≢false}
 use Rattle.alpha_outside.specs.declared.node.Node.{Node}
 use Rattle.alpha_outside.specs.declared.pred.Pred.{Pred}
 use Rattle.alpha_outside.specs.declared.maker.Maker.{Maker}
-use Rattle.search_theory.specs.Instances.{Instance, IsFounded, IsOrdered, Rules}
+use Rattle.search_values.specs.Instances.{Instance, IsFounded, IsOrdered, Rules}
 
 -- the instance of each maker, and what a journal says of atoms and makers. Only user atoms may be named, since all others are of aggregates
 pub record Ground (A K : Type 0) : Type 0 where

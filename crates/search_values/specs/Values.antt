@@ -1,12 +1,12 @@
 -- Values of atoms, literals, and the stack of entries that a search keeps.
-use Rattle.std.specs.Prelude.{◌≡◌, ℕ, ◌+◌, ◌⊎◌, Bool, true, false, ◌&&◌, cond, nat_eq, nat_le, List, [], ◌∷◌, Option, Some, None, is_none}
+use Rattle.std.specs.Prelude.{◌≡◌, ℕ, ◌+◌, ◌⊎◌, Bool, true, false, ◌&&◌, ◌||◌, cond, nat_eq, nat_le, List, [], ◌∷◌, Option, Some, None, is_none}
 use Rattle.lists.specs.Lists.{◌∈◌}
 pub use Rattle.alpha_outside.specs.declared.literal.Value.{Value}
 pub use Rattle.alpha_outside.specs.declared.literal.Value.TheVariants.{True, MustBe, False}
 pub use Rattle.alpha_outside.specs.declared.literal.Lit.{Lit}
-pub use Rattle.search_theory.specs.declared.entry.Why.{Why}
-pub use Rattle.search_theory.specs.declared.entry.Why.TheVariants.{Given, Chosen, Closed}
-pub use Rattle.search_theory.specs.declared.entry.Entry.{Entry}
+pub use Rattle.search_values.specs.declared.entry.Why.{Why}
+pub use Rattle.search_values.specs.declared.entry.Why.TheVariants.{Given, Chosen, Closed}
+pub use Rattle.search_values.specs.declared.entry.Entry.{Entry}
 
 -- whether the value says that the atom is in the set: it is true or must-be-true
 abbrev pub is_up : Value → Bool
@@ -88,7 +88,52 @@ chosen (e ∷ rest) = chosen_with e.why (value_of rest e.atom) (lit e.atom (is_u
 abbrev pub HasClosed : List Entry → Type 0
 HasClosed stack = (e : Entry) × (e ∈ stack) × ((reason : Option ℕ) × (e.why ≡ Closed reason))
 
+-- whether the search set the atom false when nothing else was left to do
+abbrev pub is_closed : Why → Bool
+is_closed (Given n) = false
+is_closed Chosen = false
+is_closed (Closed reason) = true
+
+-- whether a closed entry is on the stack
+abbrev pub any_closed : List Entry → Bool
+any_closed [] = false
+any_closed (e ∷ rest) = is_closed e.why || any_closed rest
+
+-- the entries below the first closed one; all, where none is closed
+abbrev pub before_closed : List Entry → List Entry
+before_closed [] = []
+before_closed (e ∷ rest) = cond (any_closed rest) (before_closed rest) (cond (is_closed e.why) rest (e ∷ rest))
+
+-- the atom is closed
+abbrev pub IsClosed : List Entry → ℕ → Type 0
+IsClosed stack a = (e : Entry) × (e ∈ stack) × (e.atom ≡ a) × (is_closed e.why ≡ true)
+
+-- the atom is closed, and no reason was found for it
+abbrev pub IsWithoutReason : List Entry → ℕ → Type 0
+IsWithoutReason stack a = (e : Entry) × (e ∈ stack) × (e.atom ≡ a) × (e.why ≡ Closed None)
+
+-- what stands behind an entry for which this nogood was found: a closed one without a reason takes it as its reason
+abbrev pub with_reason : Why → ℕ → Why
+with_reason (Given m) n = Given m
+with_reason Chosen n = Chosen
+with_reason (Closed None) n = Closed (Some n)
+with_reason (Closed (Some m)) n = Closed (Some m)
+
+-- the entry, with this nogood as its reason where it is a closed one of this atom and has none
+abbrev pub explained : ℕ → ℕ → Entry → Entry
+explained a n e = record { atom = e.atom; value = e.value; level = e.level; why = cond (nat_eq e.atom a) (with_reason e.why n) e.why }
+
+-- the stack on which this nogood is the reason of the atom's closed entry, where that had none
+abbrev pub explain : ℕ → ℕ → List Entry → List Entry
+explain a n [] = []
+explain a n (e ∷ rest) = explained a n e ∷ explain a n rest
+
 -- the atom is must-be-true, and became so after a Closed that is on the stack
 abbrev pub MustSinceClosed : List Entry → ℕ → Type 0
 MustSinceClosed [] x = ⊥
 MustSinceClosed (e ∷ rest) x = ((e.atom ≡ x) × (e.value ≡ MustBe) × HasClosed rest) ⊎ ((¬ (e.atom ≡ x)) × MustSinceClosed rest x)
+
+-- the value that a decision gives
+abbrev pub decision : Bool → Value
+decision true = True
+decision false = False

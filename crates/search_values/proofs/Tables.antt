@@ -3,10 +3,10 @@ use Rattle.std.proofs.Common.{◌≡◌, ℕ, ◌⊎◌, Bool, true, false, not,
 use Rattle.std.specs.Prelude.{Option, Some, None, nat_eq}
 use Rattle.std.specs.List.{list_any}
 use Rattle.lists.specs.Lists.{◌∈◌}
-use Rattle.search_theory.specs.Values.{Value, True, MustBe, False, Lit, Entry, lit, value_of, HoldsFully}
-use Rattle.search_theory.specs.Nogoods.{Nogood, Rises, Gives}
-use Rattle.search_theory.specs.Tables.{lits_of, other_sign, same_lit, both_signs, without, once, set_of}
-use Rattle.search_theory.proofs.Basics.{in_single, and_left, and_right, nat_eq-true, or_cases, lit_is}
+use Rattle.search_values.specs.Values.{Value, True, MustBe, False, Lit, Entry, lit, value_of, HoldsFully}
+use Rattle.search_values.specs.Nogoods.{Nogood, Rises, Gives}
+use Rattle.search_values.specs.Tables.{lits_of, other_sign, same_lit, both_signs, without, once, set_of}
+use Rattle.search_values.proofs.Basics.{in_single, and_left, and_right, nat_eq-true, or_cases, lit_is}
 
 -- both signs of an atom stand in the list
 pub record Clash (ls : List Lit) : Type 0 where
@@ -57,7 +57,7 @@ same_signs true false h = cc
 same_signs false true h = cc
 same_signs false false h = refl
 
-same_lit-is : (l k : Lit) → same_lit l k ≡ true → l ≡ k
+pub same_lit-is : (l k : Lit) → same_lit l k ≡ true → l ≡ k
 same_lit-is l k h = sym (lit_is l k.atom k.positive
     (nat_eq-true l.atom k.atom (and_left (nat_eq l.atom k.atom) ((l.positive && k.positive) || (not l.positive && not k.positive)) h))
     (same_signs l.positive k.positive (and_right (nat_eq l.atom k.atom) ((l.positive && k.positive) || (not l.positive && not k.positive)) h)))

@@ -1,0 +1,5 @@
+pub mod Values
+pub mod Nogoods
+pub mod Instances
+pub mod Tables
+pub mod Numberless
