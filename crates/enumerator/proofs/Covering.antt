@@ -12,7 +12,8 @@ use Rattle.core_meaning.specs.Instances.{kind_with, kind_under}
 use Rattle.search_values.specs.Values.{False, Lit, lit, HasClosed, Holds}
 use Rattle.search_values.specs.Instances.{Kind, Plain, Choice, Constraint, Instance, IsHead}
 use Rattle.search_values.specs.Tables.{lits_of}
-use Rattle.search_theory.specs.States.{Named, IsName}
+use Rattle.search_values.specs.Ids.{Named}
+use Rattle.search_theory.specs.States.{IsName}
 use Rattle.search_theory.specs.Covers.{IsBlocked, MayJustify}
 use Rattle.search_theory.specs.Covers as cover
 use Rattle.search_theory.proofs.Central.{names_in}

@@ -11,7 +11,8 @@ use Rattle.search_values.specs.Values.{is_up, lit, value_of, Holds}
 use Rattle.search_values.specs.Nogoods.{Nogood}
 use Rattle.search_values.specs.Instances.{Kind, Plain, Choice, Constraint, Instance, Rules}
 use Rattle.search_values.specs.Tables.{Made, BodyFits, lits_of, once, set_of, each_with, with_body, table_of}
-use Rattle.search_theory.specs.States.{AtomNode, Named, BodyOf, IsName, IsSettled, IsFull}
+use Rattle.search_values.specs.Ids.{AtomNode, Named, BodyOf}
+use Rattle.search_theory.specs.States.{IsName, IsSettled, IsFull}
 use Rattle.search_values.proofs.Basics.{get_in, value_cases, nat_eq-true}
 use Rattle.search_values.proofs.Tables.{nogood, Clash, set_of-or_clash}
 use Rattle.search_theory.proofs.Stack.{Good}

@@ -14,7 +14,8 @@ use Rattle.core_rules.specs.declared.rules.Core.{Core}
 use Rattle.core_meaning.specs.Atoms.{GroundAtom, User}
 use Rattle.core_meaning.specs.AnswerSets.{HasUserAtoms}
 use Rattle.search_values.specs.Instances.{IsAnswerUnder}
-use Rattle.search_theory.specs.States.{AtomNode, Named, IsName, Names, AreUserAtoms}
+use Rattle.search_values.specs.Ids.{AtomNode, Named, Names}
+use Rattle.search_theory.specs.States.{IsName, AreUserAtoms}
 use Rattle.search_theory.specs.Laws.{NoneTwice}
 use Rattle.search_values.proofs.Basics.{in_single}
 use Rattle.search_theory.proofs.Central.{names_in}

@@ -6,7 +6,7 @@ use Rattle.lists.specs.Lists.{◌∈◌}
 use Rattle.core_meaning.specs.Atoms.{GroundAtom}
 use Rattle.search_values.specs.declared.entry.Entry.{Entry}
 use Rattle.search_values.specs.Values.{Value, value_of}
-use Rattle.search_theory.specs.States.{AtomNode, Named, BodyOf, Names}
+use Rattle.search_values.specs.Ids.{AtomNode, Named, BodyOf, Names}
 use Rattle.search_values.proofs.Basics.{value_cases}
 
 -- a named atom is not a body

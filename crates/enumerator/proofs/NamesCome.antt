@@ -21,7 +21,8 @@ use Rattle.core_rules.specs.CoreForm.{IsFitting, arity_of}
 use Rattle.core_meaning.specs.Terms.{eval}
 use Rattle.core_meaning.specs.Atoms.{GroundAtom, User, ground_atom, with_arguments, atom_under}
 use Rattle.core_meaning.specs.Instances.{atoms_under}
-use Rattle.search_theory.specs.States.{AtomNode, Named, Free, Over, IsName}
+use Rattle.search_values.specs.Ids.{AtomNode, Named}
+use Rattle.search_theory.specs.States.{Free, Over, IsName}
 use Rattle.search_theory.specs.Events.{NameTerm, NameAtom}
 use Rattle.search_values.proofs.Basics.{get_in, get_left, get_last, nat_eq-same}
 use Rattle.term_pool.specs.Nodes.{value_at}

@@ -17,7 +17,8 @@ use Rattle.search_values.specs.Values.{value_of}
 use Rattle.search_values.specs.Instances.{Constraint}
 use Rattle.search_values.specs.Tables.{Made}
 use Rattle.search_theory.specs.States as phase
-use Rattle.search_theory.specs.States.{State, BodyOf, IsName, Names, IsSettled, IsFull, AreTrueUserAtoms}
+use Rattle.search_values.specs.Ids.{BodyOf, Names}
+use Rattle.search_theory.specs.States.{State, IsName, IsSettled, IsFull, AreTrueUserAtoms}
 use Rattle.search_theory.specs.Events.{Show, Allowed}
 use Rattle.search_theory.specs.Journals.{replay}
 use Rattle.search_theory.proofs.Events.{legal_safe}

@@ -4,7 +4,8 @@ use Rattle.std.specs.Prelude.{Option, Some, option_map, slice_get}
 use Rattle.alpha_outside.specs.declared.event.Event as event
 use Rattle.alpha_outside.specs.Outside as outside
 use Rattle.alpha_outside.specs.Outside.{with_event, Rose}
-use Rattle.search_theory.specs.States.{AtomNode, Named, BodyOf, State, Names}
+use Rattle.search_values.specs.Ids.{AtomNode, Named, BodyOf, Names}
+use Rattle.search_theory.specs.States.{State}
 use Rattle.search_theory.specs.Events.{NameTerm, NameAtom, NameBody, Number, Make, Put, Choose, Close, Strike, Learn, Justify, Back, Show, Pass, happens, Allowed}
 use Rattle.search_theory.specs.Journals.{Legal, Says, replay}
 use Rattle.search_values.proofs.Basics.{get_left}

@@ -7,7 +7,7 @@ use Rattle.asp_meaning.specs.Lines.{IsSetLine}
 use Rattle.core_rules.specs.declared.rules.Core.{Core}
 use Rattle.core_meaning.specs.Atoms.{GroundAtom, User}
 use Rattle.search_values.specs.Nogoods.{Nogood, IsStruck}
-use Rattle.search_theory.specs.States.{Names}
+use Rattle.search_values.specs.Ids.{Names}
 use Rattle.search_theory.specs.Events.{Event, NameTerm, NameAtom, NameBody, Number, Make, Put, Choose, Close, Strike, Learn, Justify, Back, Show, Pass}
 use Rattle.search_theory.specs.Journals.{SaysAll}
 use Rattle.search_rules.specs.Tests.{Maker}

@@ -6,7 +6,8 @@ use Rattle.core_rules.specs.declared.rules.CoreAtom.{CoreAtom}
 use Rattle.core_rules.specs.declared.rules.CoreRule.{CoreRule}
 use Rattle.core_meaning.specs.Atoms.{GroundAtom, atom_under}
 use Rattle.core_meaning.specs.Instances.{atoms_under}
-use Rattle.search_theory.specs.States.{AtomNode, IsName, Names}
+use Rattle.search_values.specs.Ids.{AtomNode, Names}
+use Rattle.search_theory.specs.States.{IsName}
 use Rattle.ground_search.specs.Searching.{Searching, state_of}
 use Rattle.ground_search.specs.Resolving.{IsOneTooLarge}
 use Rattle.enumerator.specs.Standing.{Carries, IsStill}

@@ -6,7 +6,8 @@ use Rattle.core_rules.specs.declared.rules.CoreRule.{CoreRule}
 use Rattle.core_meaning.specs.Atoms.{GroundAtom}
 use Rattle.core_meaning.specs.Instances.{atoms_under}
 use Rattle.search_values.specs.Nogoods.{Nogood}
-use Rattle.search_theory.specs.States.{Free, Names, IsPending}
+use Rattle.search_values.specs.Ids.{Names}
+use Rattle.search_theory.specs.States.{Free, IsPending}
 use Rattle.search_rules.specs.Stage.{IsGroundCore}
 use Rattle.ground_search.specs.Searching.{Searching, ids, state_of, kind_of, with_instance}
 use Rattle.ground_search.specs.Moves.{IsDue}

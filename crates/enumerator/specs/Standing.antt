@@ -8,7 +8,8 @@ use Rattle.search_values.specs.declared.entry.Entry.{Entry}
 use Rattle.search_values.specs.Values.{level_of}
 use Rattle.search_values.specs.Instances.{Instance}
 use Rattle.search_values.specs.Tables.{Made}
-use Rattle.search_theory.specs.States.{State, BodyOf, Free, IsMade, IsFull, AreTrueUserAtoms}
+use Rattle.search_values.specs.Ids.{BodyOf}
+use Rattle.search_theory.specs.States.{State, Free, IsMade, IsFull, AreTrueUserAtoms}
 use Rattle.search_theory.specs.Journals.{Legal, replay, IsFinished}
 use Rattle.search_theory.specs.Laws.{NoneEmpty}
 use Rattle.core_rules.specs.declared.rules.Core.{Core}
@@ -16,7 +17,7 @@ use Rattle.core_rules.specs.declared.rules.CoreRule.{CoreRule}
 use Rattle.core_rules.specs.declared.rules.CoreAtom.{CoreAtom}
 use Rattle.core_meaning.specs.Atoms.{GroundAtom}
 use Rattle.core_meaning.specs.Instances.{atoms_under}
-use Rattle.search_theory.specs.States.{Names}
+use Rattle.search_values.specs.Ids.{Names}
 use Rattle.search_rules.specs.Tests.{Maker}
 use Rattle.search_rules.specs.Rules.{Reached, search_rules, instance_by}
 use Rattle.search_rules.specs.Stage.{IsGroundCore}

@@ -2,7 +2,7 @@
 //! is made. Where one of its terms is too large, the search comes to a halt.
 
 ghost use Rattle.std.specs.Prelude.{◌≡◌, ◌≤◌, length, OnOk, IfErr, IfOk, Option, List, ℕ};
-ghost use Rattle.search_theory.specs.States.{BodyOf};
+ghost use Rattle.search_values.specs.Ids.{BodyOf};
 ghost use Rattle.ground_search.specs.Searching.{ids, with_name};
 ghost use Rattle.enumerator.specs.Standing.{IsStill, IsReady, IsTraceFault, Carries};
 ghost use Rattle.enumerator.specs.Moves.{MoveIs};

@@ -30,7 +30,8 @@ use Rattle.core_meaning.specs.Terms.{eval, eval_all}
 use Rattle.core_meaning.specs.Atoms.{GroundAtom, User, ground_atom, with_arguments}
 use Rattle.search_values.specs.Values.{value_of}
 use Rattle.search_values.specs.Tables.{lits_of}
-use Rattle.search_theory.specs.States.{IsName, Named, BodyOf}
+use Rattle.search_values.specs.Ids.{Named, BodyOf}
+use Rattle.search_theory.specs.States.{IsName}
 use Rattle.search_values.proofs.Basics.{any_to, any_from, nat_eq-same, nat_eq-true, get_in, in_single, and_intro}
 use Rattle.search_rules.specs.Tests.{same_maker, same_atom}
 use Rattle.search_rules.specs.Rules.{names_atom, is_this}

@@ -16,9 +16,10 @@ use Rattle.core_rules.specs.CoreForm.{IsRuleForm}
 use Rattle.core_rules.specs.Names.{IsNamedTerm, IsNamedAtom, IsNamedHead, IsNamedRule}
 use Rattle.core_rules.specs.Variables.{variables, has_arithmetic, head_variables, atom_variables, test_variables, variables_of, test_terms}
 use Rattle.search_values.specs.declared.entry.Entry.{Entry}
-use Rattle.search_theory.specs.States.{AtomNode}
+use Rattle.search_values.specs.Ids.{AtomNode}
 use Rattle.search_values.proofs.Basics.{get_in}
 use Rattle.core_meaning.specs.Atoms.{User}
+use Rattle.search_values.specs.Ids as naming
 use Rattle.search_theory.specs.States as theory
 use Rattle.nogood_store.specs.Stored.{nogood_of}
 use Rattle.term_pool.specs.Nodes.{value_at, KeepsValues}
@@ -48,7 +49,7 @@ module _ (old new : List Node) (kept : KeepsValues old new) where
 
   -- an atom keeps its name
   name_kept : (preds : List Pred) (n : arena.AtomNode) → HasArgumentsBelow (length old) n → name_of new preds n ≡ name_of old preds n
-  name_kept preds (node.Named p args) below = ap (λ vs. theory.Named (User (atom_of (slice_index_or preds p (pred.Domain 0 0)) vs))) (args_kept args below)
+  name_kept preds (node.Named p args) below = ap (λ vs. naming.Named (User (atom_of (slice_index_or preds p (pred.Domain 0 0)) vs))) (args_kept args below)
   name_kept preds (node.Body inst) below = refl
 
   -- so do all atoms

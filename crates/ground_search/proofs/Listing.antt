@@ -18,7 +18,7 @@ use Rattle.asp_meaning.specs.Atoms.{Atom}
 use Rattle.asp_meaning.specs.Lines.{IsInOrder, atom_cmp}
 use Rattle.core_meaning.specs.Atoms.{GroundAtom, User}
 use Rattle.search_values.specs.Values.{True, value_of}
-use Rattle.search_theory.specs.States.{AtomNode, Named, Names}
+use Rattle.search_values.specs.Ids.{AtomNode, Named, Names}
 use Rattle.search_values.proofs.Basics.{in_single, get_in}
 use Rattle.term_pool.specs.Nodes.{value_at, value_size, most_symbols}
 use Rattle.atom_pool.specs.declared.atom.AtomNode as arena

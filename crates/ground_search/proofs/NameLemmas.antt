@@ -12,7 +12,7 @@ use Rattle.alpha_outside.specs.declared.node.Node.TheVariants as term
 use Rattle.alpha_outside.specs.declared.pred.Pred.{Pred}
 use Rattle.alpha_outside.specs.declared.pred.Pred.TheVariants as pred
 use Rattle.core_meaning.specs.Atoms.{User}
-use Rattle.search_theory.specs.States.{Named, BodyOf}
+use Rattle.search_values.specs.Ids.{Named, BodyOf}
 use Rattle.search_theory.specs.Events as theory
 use Rattle.search_values.proofs.Basics.{in_single, get_in}
 use Rattle.term_pool.specs.Nodes.{IsPool, KeepsValues, PartsBelow, HasArguments, value_at}

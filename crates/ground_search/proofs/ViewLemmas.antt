@@ -13,7 +13,7 @@ use Rattle.core_rules.specs.declared.rules.Core.{Core}
 use Rattle.core_rules.specs.declared.rules.CoreRule.{CoreRule}
 use Rattle.search_values.specs.declared.entry.Entry.{Entry}
 use Rattle.core_meaning.specs.Atoms.{GroundAtom}
-use Rattle.search_theory.specs.States.{AtomNode}
+use Rattle.search_values.specs.Ids.{AtomNode}
 use Rattle.search_values.specs.Tables.{nogoods_of}
 use Rattle.search_theory.specs.Events.{lits_at, lits_in, phase_struck}
 use Rattle.search_values.specs.Values.{all_at_0}

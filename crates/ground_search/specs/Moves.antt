@@ -6,7 +6,8 @@ use Rattle.search_values.specs.declared.entry.Entry.{Entry}
 use Rattle.search_values.specs.Values.{value_of, lit, Holds}
 use Rattle.search_values.specs.Nogoods.{Nogood, IsStruck, Gives, NoneStruck, NoneUnit}
 use Rattle.search_values.specs.Tables.{Made}
-use Rattle.search_theory.specs.States.{IsName, IsMade, IsActive, Names}
+use Rattle.search_values.specs.Ids.{Names}
+use Rattle.search_theory.specs.States.{IsName, IsMade, IsActive}
 use Rattle.asp_meaning.specs.Atoms.{Atom}
 use Rattle.asp_meaning.specs.Lines.{IsInOrder}
 use Rattle.core_rules.specs.declared.rules.CoreRule.{CoreRule}

@@ -14,7 +14,8 @@ use Rattle.core_rules.specs.declared.rules.CoreRule.{CoreRule}
 use Rattle.core_rules.specs.declared.rules.Core.{Core}
 use Rattle.core_meaning.specs.Terms.{eval_all}
 use Rattle.core_meaning.specs.Atoms.{GroundAtom}
-use Rattle.search_theory.specs.States.{IsName, Named}
+use Rattle.search_values.specs.Ids.{Named}
+use Rattle.search_theory.specs.States.{IsName}
 use Rattle.search_theory.specs.Events.{PartsBelow}
 use Rattle.term_pool.specs.Nodes.{value_at}
 use Rattle.term_eval.specs.Evals.{Grows, HasTooLarge}

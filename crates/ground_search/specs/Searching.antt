@@ -21,7 +21,7 @@ use Rattle.search_values.specs.Instances.{Kind, Plain, Choice, Constraint, Insta
 use Rattle.search_values.specs.Tables as table
 use Rattle.search_values.specs.Tables.{nogoods_of}
 use Rattle.search_theory.specs.States as theory
-use Rattle.search_theory.specs.States.{AtomNode, Named, BodyOf}
+use Rattle.search_values.specs.Ids.{AtomNode, Named, BodyOf}
 use Rattle.search_theory.specs.Events.{Event}
 use Rattle.nogood_store.specs.Stored.{Stored, nogood_of}
 use Rattle.term_pool.specs.Nodes.{value_at}

@@ -3,7 +3,8 @@ use Rattle.std.proofs.Common.{◌≡◌, ℕ, List, [], ◌∷◌, ◌++◌, len
 use Rattle.std.specs.Prelude.{Option, Some, None, slice_get}
 use Rattle.search_values.specs.Instances.{Rules}
 use Rattle.search_values.specs.Tables.{Made}
-use Rattle.search_theory.specs.States.{AtomNode, Named, BodyOf, State, IsPending}
+use Rattle.search_values.specs.Ids.{AtomNode, Named, BodyOf}
+use Rattle.search_theory.specs.States.{State, IsPending}
 use Rattle.search_theory.specs.Events.{Event, NameTerm, NameAtom, NameBody, Number, Make, Put, Choose, Close, Strike, Learn, Justify, Back, Show, Pass, happens, BodyIsNext, Allowed}
 use Rattle.search_theory.specs.Journals.{replay, Legal}
 use Rattle.search_values.proofs.Basics.{get_none, get_snoc}

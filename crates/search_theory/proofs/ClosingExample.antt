@@ -8,7 +8,8 @@ use Rattle.search_values.specs.Values.{Value, True, MustBe, False, Lit, lit, val
 use Rattle.search_values.specs.Nogoods.{IsStruck, IsLeft, Rises}
 use Rattle.search_values.specs.Instances.{Plain, Instance}
 use Rattle.search_values.specs.Tables.{Made}
-use Rattle.search_theory.specs.States.{AtomNode, Named, BodyOf, State, IsName, IsUp, IsActive, IsMade, IsSettled, IsStuck, IsFull, AreTrueUserAtoms}
+use Rattle.search_values.specs.Ids.{AtomNode, Named, BodyOf}
+use Rattle.search_theory.specs.States.{State, IsName, IsUp, IsActive, IsMade, IsSettled, IsStuck, IsFull, AreTrueUserAtoms}
 use Rattle.search_theory.specs.Events.{Decisions, Event, NameAtom, NameBody, Make, Put, Choose, Close, Strike, Learn, Back, Show, NoneStuck, Allowed}
 use Rattle.search_theory.specs.Journals.{replay, Legal}
 use Rattle.alpha_outside.specs.declared.event.Event as outside

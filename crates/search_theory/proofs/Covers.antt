@@ -7,7 +7,8 @@ use Rattle.search_values.specs.Values.{Value, True, MustBe, False, Lit, lit, val
 use Rattle.search_values.specs.Nogoods.{Nogood, IsStruck, IsLeft, Gives}
 use Rattle.search_values.specs.Instances.{Kind, Plain, Choice, Constraint, Instance, body_holds, head_taken, IsHead, IsFounded, Rules, IsExtension}
 use Rattle.search_values.specs.Tables.{Made, BodyFits}
-use Rattle.search_theory.specs.States.{AtomNode, Names, KindNames, Denotes, State, IsName, truth, Agrees, IsOpen, IsSound}
+use Rattle.search_values.specs.Ids.{AtomNode, Names, KindNames, Denotes}
+use Rattle.search_theory.specs.States.{State, IsName, truth, Agrees, IsOpen, IsSound}
 use Rattle.search_theory.specs.Covers.{IsBlocked, needs_one, lacks, is_denied, has_false_body, IsCover, MayJustify}
 use Rattle.search_values.proofs.Basics.{and_intro, BodyParts, body_parts, some_or_all}
 use Rattle.search_theory.proofs.Meaning.{OfAtom, OfBody, IsBody, truth_means, AllKnown}

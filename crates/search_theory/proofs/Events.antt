@@ -9,7 +9,8 @@ use Rattle.search_values.specs.Values.{Value, True, MustBe, False, Lit, lit, val
 use Rattle.search_values.specs.Nogoods.{Nogood, IsStruck, Gives, NoneUnit}
 use Rattle.search_values.specs.Instances.{Kind, Plain, Choice, Constraint, Instance, all_in, none_in, head_taken, Rules}
 use Rattle.search_values.specs.Tables.{Made, nogoods_of}
-use Rattle.search_theory.specs.States.{Named, BodyOf, Phase, Free, MustLearn, Found, MustStrike, MustJump, Over, State, IsName, Agrees, Names, KindNames, Denotes, WasFound, AreUserAtoms, IsOpen, IsSound, IsActive, NoneActive, IsStuck, IsFull, AreTrueUserAtoms}
+use Rattle.search_values.specs.Ids.{Named, BodyOf, Names, KindNames, Denotes}
+use Rattle.search_theory.specs.States.{Phase, Free, MustLearn, Found, MustStrike, MustJump, Over, State, IsName, Agrees, WasFound, AreUserAtoms, IsOpen, IsSound, IsActive, NoneActive, IsStuck, IsFull, AreTrueUserAtoms}
 use Rattle.search_theory.specs.Events.{Analysed, Justified, Decisions, Enumerated, Event, NameTerm, NameAtom, NameBody, Number, Make, Put, Choose, Close, Strike, Learn, Justify, Back, Show, Pass, phase_struck, phase_learned, MayStrike, lits_in, lits_at, happens, BodyIsNext, Allowed}
 use Rattle.search_theory.specs.Journals.{start, replay, Legal, IsFinished}
 use Rattle.search_values.proofs.Basics.{in_single, get_left, get_last, get_in, bool_cases}

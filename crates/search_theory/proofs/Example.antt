@@ -7,7 +7,8 @@ use Rattle.search_values.specs.declared.entry.Entry.{Entry}
 use Rattle.search_values.specs.Values.{Value, True, MustBe, False, lit, value_of, back_to, HasClosed}
 use Rattle.search_values.specs.Instances.{Plain, Instance}
 use Rattle.search_values.specs.Tables.{Made}
-use Rattle.search_theory.specs.States.{AtomNode, Named, BodyOf, State, IsUp, IsActive, IsMade, IsStuck, IsFull, AreTrueUserAtoms}
+use Rattle.search_values.specs.Ids.{AtomNode, Named, BodyOf}
+use Rattle.search_theory.specs.States.{State, IsUp, IsActive, IsMade, IsStuck, IsFull, AreTrueUserAtoms}
 use Rattle.search_theory.specs.Events.{Decisions, Enumerated, Event, NameAtom, NameBody, Make, Put, Choose, Strike, Learn, Back, Show, NoneStuck, Allowed}
 use Rattle.search_theory.specs.Journals.{replay, Legal}
 use Rattle.alpha_outside.specs.declared.event.Event as outside

@@ -7,7 +7,8 @@ use Rattle.search_values.specs.Values.{Lit, chosen}
 use Rattle.search_values.specs.Nogoods.{Nogood}
 use Rattle.search_values.specs.Instances.{Rules, IsExtension}
 use Rattle.search_values.specs.Tables.{nogoods_of}
-use Rattle.search_theory.specs.States.{Named, Free, Found, State, IsName, truth, Agrees, WasFound, AreUserAtoms, IsFull, AreTrueUserAtoms}
+use Rattle.search_values.specs.Ids.{Named}
+use Rattle.search_theory.specs.States.{Free, Found, State, IsName, truth, Agrees, WasFound, AreUserAtoms, IsFull, AreTrueUserAtoms}
 use Rattle.search_theory.specs.Events.{Analysed, Justified, Decisions, Enumerated, Event, NameTerm, NameAtom, NameBody, Number, Make, Put, Choose, Close, Strike, Learn, Justify, Back, Show, Pass, happens, Allowed}
 use Rattle.search_theory.specs.Journals.{replay, Legal}
 use Rattle.search_theory.proofs.Meaning.{means_grows, truth_means, Known, truth_grows, AllKnown}

@@ -9,7 +9,8 @@ use Rattle.search_values.specs.Values.{Value, True, MustBe, False, Lit, is_up, l
 use Rattle.search_values.specs.Nogoods.{Nogood, IsStruck, Gives}
 use Rattle.search_values.specs.Instances.{Kind, Plain, Choice, Constraint, Instance, Rules}
 use Rattle.search_values.specs.Tables.{Made, BodyFits, lits_of, set_of, each_with, with_body, table_of, nogoods_of}
-use Rattle.search_theory.specs.States.{Named, BodyOf, Phase, Free, MustLearn, Found, MustStrike, MustJump, Over, State, IsName, KindNames, IsActive}
+use Rattle.search_values.specs.Ids.{Named, BodyOf, KindNames}
+use Rattle.search_theory.specs.States.{Phase, Free, MustLearn, Found, MustStrike, MustJump, Over, State, IsName, IsActive}
 use Rattle.search_theory.specs.Events.{Analysed, Justified, Decisions, Enumerated, Event, NameTerm, NameAtom, NameBody, Number, Make, Put, Choose, Close, Strike, Learn, Justify, Back, Show, Pass, phase_struck, phase_learned, MayStrike, lits_at, happens, Allowed}
 use Rattle.search_theory.specs.Journals.{replay, Legal}
 use Rattle.search_values.proofs.Basics.{in_single, get_left, get_last, value_cases, some_or_all}

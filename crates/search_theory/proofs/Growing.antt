@@ -1,7 +1,8 @@
 -- A journal that goes on leaves the open sets that it had, but for atoms that couldn't be named, and no others.
 use Rattle.std.proofs.Common.{List, [], ◌∷◌, ◌++◌, length, refl, ◌∙◌, inl, inr}
 use Rattle.search_values.specs.Instances.{Rules}
-use Rattle.search_theory.specs.States.{Named, BodyOf, State}
+use Rattle.search_values.specs.Ids.{Named, BodyOf}
+use Rattle.search_theory.specs.States.{State}
 use Rattle.search_theory.specs.Events.{Event, NameTerm, NameAtom, NameBody, Number, Make, Put, Choose, Close, Strike, Learn, Justify, Back, Show, Pass, happens, Allowed}
 use Rattle.search_theory.specs.Journals.{replay, Legal}
 use Rattle.search_theory.proofs.Meaning.{Grows, known_grows, Later}

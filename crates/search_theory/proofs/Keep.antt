@@ -7,7 +7,8 @@ use Rattle.search_values.specs.Values.{Lit, lit, chosen, HasClosed}
 use Rattle.search_values.specs.Nogoods.{Nogood}
 use Rattle.search_values.specs.Instances.{Kind, Plain, Choice, Constraint, Instance, Rules, IsExtension}
 use Rattle.search_values.specs.Tables.{Made, lits_of, once, set_of, each_with, with_body, table_of}
-use Rattle.search_theory.specs.States.{AtomNode, Named, BodyOf, Phase, Free, MustLearn, Found, MustStrike, MustJump, Over, State, IsName, WasFound, AreUserAtoms, IsOpen, IsSound}
+use Rattle.search_values.specs.Ids.{AtomNode, Named, BodyOf}
+use Rattle.search_theory.specs.States.{Phase, Free, MustLearn, Found, MustStrike, MustJump, Over, State, IsName, WasFound, AreUserAtoms, IsOpen, IsSound}
 use Rattle.search_values.proofs.Basics.{get_left, get_snoc}
 use Rattle.search_theory.proofs.Meaning.{Grows, denotes_grows, known_grows, truth_grows, Later, SameSets, AllKnown, sound_later}
 use Rattle.search_theory.proofs.Stack.{Good, good_later}

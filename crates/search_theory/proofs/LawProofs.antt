@@ -8,7 +8,8 @@ use Rattle.search_values.specs.Values.{True, Lit, lit, value_of, opened, level_o
 use Rattle.search_values.specs.Nogoods.{Nogood}
 use Rattle.search_values.specs.Instances.{Plain, Instance, Rules}
 use Rattle.search_values.specs.Tables.{lits_of, set_of, each_with, table_of}
-use Rattle.search_theory.specs.States.{Named, State, IsName, IsSound, AreTrueUserAtoms, IsSetOf}
+use Rattle.search_values.specs.Ids.{Named}
+use Rattle.search_theory.specs.States.{State, IsName, IsSound, AreTrueUserAtoms, IsSetOf}
 use Rattle.search_theory.specs.Events.{Analysed, Justified, Decisions, Enumerated, Event, NameTerm, NameAtom, NameBody, Number, Make, Put, Choose, Close, Strike, Learn, Justify, Back, Show, Pass, happens, Allowed}
 use Rattle.search_theory.specs.Journals.{replay, Legal}
 use Rattle.search_values.proofs.Basics.{get_in, and_intro, nat_eq-same}

@@ -6,7 +6,8 @@ use Rattle.search_values.specs.declared.entry.Why.TheVariants.{Closed}
 use Rattle.search_values.specs.declared.entry.Entry.{Entry}
 use Rattle.search_values.specs.Values.{MustBe, False, value_of, opened, level_of, back_to, HasClosed, MustSinceClosed}
 use Rattle.search_values.specs.Instances.{Rules}
-use Rattle.search_theory.specs.States.{AtomNode, Named, BodyOf, State}
+use Rattle.search_values.specs.Ids.{AtomNode, Named, BodyOf}
+use Rattle.search_theory.specs.States.{State}
 use Rattle.search_theory.specs.Events.{Event, NameTerm, NameAtom, NameBody, Number, Make, Put, Choose, Close, Strike, Learn, Justify, Back, Show, Pass, happens, Allowed}
 use Rattle.search_theory.specs.Journals.{replay, Legal}
 use Rattle.search_values.proofs.Basics.{get_snoc, value_cases, get_none}

@@ -9,7 +9,8 @@ use Rattle.search_values.specs.Values.{HasClosed, MustSinceClosed, Value, True, 
 use Rattle.search_values.specs.Nogoods.{Nogood, IsStruck, Gives}
 use Rattle.search_values.specs.Instances.{Rules}
 use Rattle.search_values.specs.Tables.{once}
-use Rattle.search_theory.specs.States.{Named, State, IsName, truth, Agrees, IsOpen, IsSound}
+use Rattle.search_values.specs.Ids.{Named}
+use Rattle.search_theory.specs.States.{State, IsName, truth, Agrees, IsOpen, IsSound}
 use Rattle.search_values.proofs.Basics.{and_left, and_right, and_intro, bool_cases, nat_eq-same, nat_eq-true, value_cases}
 use Rattle.search_theory.proofs.Meaning.{OfAtom, truth_means, Known, known_grows, Later, SameSets, AllKnown, agrees_earlier}
 

@@ -8,7 +8,8 @@ use Rattle.search_values.specs.Values.{Value, True, MustBe, False, Lit, lit, val
 use Rattle.search_values.specs.Nogoods.{Nogood, Rises, Gives}
 use Rattle.search_values.specs.Instances.{Kind, Plain, Choice, Constraint, IsHead, Rules}
 use Rattle.search_values.specs.Tables.{Made, lits_of, once, set_of, each_with, with_body, table_of, nogoods_of}
-use Rattle.search_theory.specs.States.{Named, BodyOf, State, IsName, KindNames}
+use Rattle.search_values.specs.Ids.{Named, BodyOf, KindNames}
+use Rattle.search_theory.specs.States.{State, IsName}
 use Rattle.search_theory.specs.Events.{Analysed, Justified, Decisions, Enumerated, Event, NameTerm, NameAtom, NameBody, Number, Make, Put, Choose, Close, Strike, Learn, Justify, Back, Show, Pass, happens, Allowed}
 use Rattle.search_theory.specs.Journals.{replay, Legal}
 use Rattle.search_values.proofs.Basics.{in_single, get_in, value_cases}

@@ -12,7 +12,8 @@ use Rattle.search_values.specs.Nogoods.{Nogood, IsStruck, Gives, NoneStruck, Non
 use Rattle.search_values.specs.Instances.{Instance, Rules}
 use Rattle.search_values.specs.Tables.{Made, BodyFits, nogoods_of}
 use Rattle.search_theory.specs.Covers.{MayJustify}
-use Rattle.search_theory.specs.States.{Named, BodyOf, Phase, Free, MustLearn, Found, MustStrike, MustJump, Over, State, IsName, IsPending, Denotes, IsUp, IsActive, IsMade, IsSettled, IsStuck, IsFull, AreTrueUserAtoms, IsSetOf}
+use Rattle.search_values.specs.Ids.{Named, BodyOf, Denotes}
+use Rattle.search_theory.specs.States.{Phase, Free, MustLearn, Found, MustStrike, MustJump, Over, State, IsName, IsPending, IsUp, IsActive, IsMade, IsSettled, IsStuck, IsFull, AreTrueUserAtoms, IsSetOf}
 
 -- one event of a journal, over atoms and makers. The project's events speak of ids: `Journals` says how those are read
 pub data Event (A K : Type 0) : Type 0 where

@@ -6,7 +6,8 @@ use Rattle.search_values.specs.Values.{Value, True, MustBe, is_up, Lit, lit, val
 use Rattle.search_values.specs.Nogoods.{Nogood}
 use Rattle.search_values.specs.Instances.{Plain, Rules, IsExtension, IsAnswerUnder}
 use Rattle.search_values.specs.Tables.{Made, nogoods_of}
-use Rattle.search_theory.specs.States.{BodyOf, Phase, Free, MustLearn, Found, MustStrike, MustJump, Over, State, IsName, truth, Agrees, WasFound, AreUserAtoms, IsOpen, IsSound, IsSettled, IsFull, AreTrueUserAtoms, IsSetOf}
+use Rattle.search_values.specs.Ids.{BodyOf}
+use Rattle.search_theory.specs.States.{Phase, Free, MustLearn, Found, MustStrike, MustJump, Over, State, IsName, truth, Agrees, WasFound, AreUserAtoms, IsOpen, IsSound, IsSettled, IsFull, AreTrueUserAtoms, IsSetOf}
 use Rattle.search_theory.specs.Covers.{IsCover, MayJustify}
 use Rattle.search_theory.specs.Events.{Event, Close, Strike, Learn, Back, How, Decisions, Enumerated, Show, Pass, MayLearn, IsNew, Allowed}
 use Rattle.search_theory.specs.Journals.{replay, Legal, IsFinished}

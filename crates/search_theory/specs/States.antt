@@ -6,12 +6,8 @@ use Rattle.search_values.specs.declared.entry.Entry.{Entry}
 use Rattle.search_values.specs.Values.{Value, True, MustBe, Lit, lit, value_of, Holds, MustSinceClosed}
 use Rattle.search_values.specs.Nogoods.{Nogood, NoneStruck, NoneUnit}
 use Rattle.search_values.specs.Instances.{Kind, Plain, Choice, Constraint, Instance, body_true, Rules, IsExtension, IsAnswerUnder}
+use Rattle.search_values.specs.Ids.{AtomNode, Named, BodyOf, named_true, node_true, Names}
 use Rattle.search_values.specs.Tables.{Made}
-
--- what the id of an atom stands for: a named atom, or the body of the instance with this number
-pub data AtomNode (A : Type 0) : Type 0 where
-  Named : A → AtomNode A
-  BodyOf : ℕ → AtomNode A
 
 -- what has to come next
 pub data Phase : Type 0 where
@@ -55,27 +51,6 @@ IsName s x a = slice_get s.names x ≡ Some (Named a)
 abbrev pub IsPending : {N A K : Type 0} → State N A K → ℕ → Type 0
 IsPending s x = slice_get s.names x ≡ Some (BodyOf (length s.made))
 
--- whether what an id stands for is a named atom of the set
-abbrev pub named_in : {A : Type 0} → (A → Bool) → Option (AtomNode A) → Bool
-named_in c None = false
-named_in c (Some (Named a)) = c a
-named_in c (Some (BodyOf k)) = false
-
--- whether the atom that the id names is in the set
-abbrev pub named_true : {A : Type 0} → List (AtomNode A) → (A → Bool) → ℕ → Bool
-named_true names c x = named_in c (slice_get names x)
-
--- whether the body atom of an instance is true where its atoms are so
-abbrev pub made_true : {K : Type 0} → (ℕ → Bool) → Option (Made K) → Bool
-made_true w None = false
-made_true w (Some k) = body_true w k.inst
-
--- whether what an id stands for is true in the set: a body atom is where its instance's is
-abbrev pub node_true : {A K : Type 0} → (ℕ → Bool) → List (Made K) → (A → Bool) → Option (AtomNode A) → Bool
-node_true w made c None = false
-node_true w made c (Some (Named a)) = c a
-node_true w made c (Some (BodyOf k)) = made_true w (slice_get made k)
-
 -- whether the atom of the id, named or of a body, is true in the set
 abbrev pub truth : {N A K : Type 0} → State N A K → (A → Bool) → ℕ → Bool
 truth s c x = node_true (named_true s.names c) s.made c (slice_get s.names x)
@@ -83,31 +58,6 @@ truth s c x = node_true (named_true s.names c) s.made c (slice_get s.names x)
 -- the set makes all these literals true
 abbrev pub Agrees : {N A K : Type 0} → State N A K → (A → Bool) → List Lit → Type 0
 Agrees s c ls = (l : Lit) → l ∈ ls → truth s c l.atom ≡ l.positive
-
--- the ids name these atoms, one by one
-abbrev pub Names : {A : Type 0} → List (AtomNode A) → List ℕ → List A → Type 0
-Names names [] [] = Unit {0}
-Names names [] (a ∷ atoms) = ⊥
-Names names (x ∷ xs) [] = ⊥
-Names names (x ∷ xs) (a ∷ atoms) = (slice_get names x ≡ Some (Named a)) × Names names xs atoms
-
--- the kind over ids is this one over atoms
-abbrev pub KindNames : {A : Type 0} → List (AtomNode A) → Kind ℕ → Kind A → Type 0
-KindNames names (Plain x) (Plain a) = slice_get names x ≡ Some (Named a)
-KindNames names (Plain x) (Choice a) = ⊥
-KindNames names (Plain x) Constraint = ⊥
-KindNames names (Choice x) (Choice a) = slice_get names x ≡ Some (Named a)
-KindNames names (Choice x) (Plain a) = ⊥
-KindNames names (Choice x) Constraint = ⊥
-KindNames names Constraint Constraint = Unit {0}
-KindNames names Constraint (Plain a) = ⊥
-KindNames names Constraint (Choice a) = ⊥
-
--- the instance over ids is this one over atoms
-pub record Denotes {A : Type 0} (names : List (AtomNode A)) (k : Instance ℕ) (i : Instance A) : Type 0 where
-  pub kind : KindNames names k.kind i.kind
-  pub pos : Names names k.pos i.pos
-  pub neg : Names names k.neg i.neg
 
 -- ---- sets that are still to come, and sound nogoods
 

@@ -3,3 +3,4 @@ pub mod Nogoods
 pub mod Instances
 pub mod Tables
 pub mod Numberless
+pub mod Ids

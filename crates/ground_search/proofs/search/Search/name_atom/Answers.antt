@@ -3,7 +3,7 @@ use Rattle.std.specs.Prelude.{slice_get, Result, Ok, Err, OnErr, nat_lt}
 use Rattle.std.proofs.lemmas.Bool.{le-ltb, lt-ltb}
 use Rattle.lists.specs.Lists.{Each}
 use Rattle.core_meaning.specs.Atoms.{User}
-use Rattle.search_theory.specs.States.{Named}
+use Rattle.search_values.specs.Ids.{Named}
 use Rattle.term_pool.specs.Nodes.{value_at}
 use Rattle.atom_pool.specs.Pools.{Pool}
 use Rattle.atom_pool.specs.Meanings.{atom_of, IsBeside}

@@ -1,7 +1,8 @@
 use Rattle.std.proofs.Common.{◌≡◌, ◌≤◌, ◌<◌, ◌+◌, ◌++◌, ◌∷◌, [], ℕ, map, length, arith, sym, subst, ap, ◌∙◌, Some}
 use Rattle.std.specs.Prelude.{slice_get}
 use Rattle.std.proofs.lemmas.List.{length-map}
-use Rattle.search_theory.specs.States.{AtomNode, BodyOf, IsPending}
+use Rattle.search_values.specs.Ids.{AtomNode, BodyOf}
+use Rattle.search_theory.specs.States.{IsPending}
 use Rattle.core_meaning.specs.Atoms.{GroundAtom}
 use Rattle.trail.specs.Assigning.{Trailed}
 use Rattle.atom_pool.specs.Pools.{Pool}
