@@ -1,6 +1,7 @@
 -- The core rules of a ground program have heads and bodies as core form says.
 use Rattle.std.proofs.Common.{◌≡◌, List, [], ◌∷◌, ◌++◌, refl, sym, ap, subst, inl, inr}
 use Rattle.std.specs.Prelude.{Option, Some, None}
+use Rattle.std.proofs.lemmas.Option.{same_Some}
 use Rattle.lists.specs.Lists.{◌∈◌}
 use Rattle.lists.proofs.ListLemmas.{∈-append_cases}
 use Rattle.search_values.specs.Instances.{Kind, Plain, Choice, Constraint, Instance, IsHead}
@@ -8,7 +9,6 @@ use Rattle.core_meaning.specs.Atoms.{GroundAtom, User, Domain, Member, Total}
 use Rattle.aggregate_laws.specs.Rules.{IsHeadAtom, IsBodyAtom, AreRules}
 use Rattle.asp_meaning.specs.Atoms.{Atom}
 use Rattle.aggregate_laws.specs.TotalsInBodies.{NeededTotal, RuleInstance, DomainInstance, ElementInstance, GroundProgram, CoreMaker, FromRule, FromDomain, FromElement, user_atoms, total_atoms, user_kind, core_rule, core_domain, core_element, core_rules}
-use Rattle.aggregate_laws.proofs.Places.{same_in_some}
 
 pub in_users : (us : List Atom) (u : Atom) → (u ∈ us) → ((User u) ∈ (user_atoms us))
 in_users [] u i = absurd i
@@ -44,17 +44,17 @@ rule_is P (FromRule r) i e = go (P.rules r) refl e
   where
     go : (o : Option RuleInstance) → P.rules r ≡ o → core_rule o ≡ Some i → RuleIs P i
     go None o e = cc
-    go (Some x) o e = subst (λ j. RuleIs P j) (same_in_some _ _ e) (of_rule r x o)
+    go (Some x) o e = subst (λ j. RuleIs P j) (same_Some _ _ e) (of_rule r x o)
 rule_is P (FromDomain d) i e = go (P.domains d) refl e
   where
     go : (o : Option DomainInstance) → P.domains d ≡ o → core_domain o ≡ Some i → RuleIs P i
     go None o e = cc
-    go (Some x) o e = subst (λ j. RuleIs P j) (same_in_some _ _ e) (of_domain d x o)
+    go (Some x) o e = subst (λ j. RuleIs P j) (same_Some _ _ e) (of_domain d x o)
 rule_is P (FromElement d) i e = go (P.elements d) refl e
   where
     go : (o : Option ElementInstance) → P.elements d ≡ o → core_element o ≡ Some i → RuleIs P i
     go None o e = cc
-    go (Some x) o e = subst (λ j. RuleIs P j) (same_in_some _ _ e) (of_element d x o)
+    go (Some x) o e = subst (λ j. RuleIs P j) (same_Some _ _ e) (of_element d x o)
 
 module _ {R D E : Type 0} (P : GroundProgram R D E) where
   flat_users : (us : List Atom) (a : GroundAtom) → (a ∈ (user_atoms us)) → IsBodyAtom a

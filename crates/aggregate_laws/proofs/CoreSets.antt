@@ -1,6 +1,7 @@
 -- Core answer sets of a core are sets of its rules beside the steps.
 use Rattle.std.proofs.Common.{◌≡◌, ℕ, ◌⊎◌, Bool, true, false, cond, List, [], ◌∷◌, map, refl, sym, ◌∙◌, ap, subst, inl, inr}
 use Rattle.std.specs.Prelude.{Option, Some, None, slice_get, take, drop}
+use Rattle.std.proofs.lemmas.Option.{same_Some}
 use Rattle.lists.specs.Lists.{◌∈◌}
 use Rattle.lists.proofs.ListLemmas.{Each-at}
 use Rattle.alpha_outside.specs.declared.pred.Pred.{Pred}
@@ -26,7 +27,6 @@ use Rattle.core_meaning.specs.AnswerSets as core
 use Rattle.aggregate_laws.specs.Rules.{rules_of, NumbersOnce, MakerOf, ByRule, ByStep, instance_of, IsHeadAtom, IsBodyAtom, IsAnswerSetOf}
 use Rattle.aggregate_laws.specs.Laws.{CoreFormGivesRules, CoreSetsAreOfTheRules, NumbersNoMore, CoreTotalsAreExact}
 use Rattle.aggregate_laws.proofs.Totals.{totals_are_exact}
-use Rattle.aggregate_laws.proofs.Places.{same_in_some}
 
 -- ---- what the atoms of a rule become
 
@@ -34,19 +34,19 @@ use Rattle.aggregate_laws.proofs.Places.{same_in_some}
 of_ground_atom : (P : GroundAtom → Type 0) (aggs : List CoreAggregate) (p : Pred) (args : List Value) (a : GroundAtom) → ground_atom aggs p args ≡ Some a
     → ((x : _) → P (User x)) → ((agg : ℕ) (key : List Value) → P (Domain agg key)) → ((agg : ℕ) (key tuple : List Value) → P (Member agg key tuple))
     → (IsNoTotal p ⊎ ((agg : ℕ) (key : List Value) (x : Value) → P (Total agg key x))) → P a
-of_ground_atom P aggs (pred.User negated name arity) args a e user domain member total = subst P (same_in_some _ a e) (user _)
-of_ground_atom P aggs (pred.Domain agg arity) args a e user domain member total = subst P (same_in_some _ a e) (domain agg args)
+of_ground_atom P aggs (pred.User negated name arity) args a e user domain member total = subst P (same_Some _ a e) (user _)
+of_ground_atom P aggs (pred.Domain agg arity) args a e user domain member total = subst P (same_Some _ a e) (domain agg args)
 of_ground_atom P aggs (pred.Member agg arity) args a e user domain member total = go (slice_get aggs agg) e
   where
     go : (o : Option CoreAggregate) → member_of agg args o ≡ Some a → P a
     go None e = cc
-    go (Some g) e = subst P (same_in_some _ a e) (member agg (take g.key args) (drop g.key args))
+    go (Some g) e = subst P (same_Some _ a e) (member agg (take g.key args) (drop g.key args))
 of_ground_atom P aggs (pred.Total agg arity) args a e user domain member (inl h) = absurd h
 of_ground_atom P aggs (pred.Total agg arity) args a e user domain member (inr total) = go (slice_get aggs agg) e
   where
     with_rest : (key rest : List Value) → total_with agg key rest ≡ Some a → P a
     with_rest key [] e = cc
-    with_rest key (x ∷ []) e = subst P (same_in_some _ a e) (total agg key x)
+    with_rest key (x ∷ []) e = subst P (same_Some _ a e) (total agg key x)
     with_rest key (x ∷ y ∷ zs) e = cc
 
     go : (o : Option CoreAggregate) → total_of agg args o ≡ Some a → P a
@@ -73,12 +73,12 @@ body_atom aggs b h a e = go (eval_all b h.args) e
     go (Some args) e = of_ground_atom IsBodyAtom aggs h.pred args a e (λ x. tt) (λ agg key. tt) (λ agg key tuple. tt) (inr (λ agg key x. tt))
 
 body_atoms : (aggs : List CoreAggregate) (b : Binding) (atoms : List CoreAtom) (atoms' : List GroundAtom) → atoms_under aggs b atoms ≡ Some atoms' → (a : GroundAtom) → a ∈ atoms' → IsBodyAtom a
-body_atoms aggs b [] atoms' e a i = absurd (subst (λ xs. a ∈ xs) (sym (same_in_some _ atoms' e)) i)
+body_atoms aggs b [] atoms' e a i = absurd (subst (λ xs. a ∈ xs) (sym (same_Some _ atoms' e)) i)
 body_atoms aggs b (h ∷ atoms) atoms' e a i = first (atom_under aggs b h) (body_atom aggs b h) (λ xs same j. body_atoms aggs b atoms xs same a j) e
   where
     rest : (x : GroundAtom) → IsBodyAtom x → (o : Option (List GroundAtom)) → ((xs : List GroundAtom) → o ≡ Some xs → a ∈ xs → IsBodyAtom a) → before x o ≡ Some atoms' → IsBodyAtom a
     rest x f None g e = cc
-    rest x f (Some xs) g e = elim (subst (λ zs. a ∈ zs) (sym (same_in_some _ atoms' e)) i) [ inl same ↦ subst IsBodyAtom (sym same) f | inr j ↦ g xs refl j ]
+    rest x f (Some xs) g e = elim (subst (λ zs. a ∈ zs) (sym (same_Some _ atoms' e)) i) [ inl same ↦ subst IsBodyAtom (sym same) f | inr j ↦ g xs refl j ]
 
     first : (o : Option GroundAtom) → ((x : GroundAtom) → o ≡ Some x → IsBodyAtom x)
         → ((xs : List GroundAtom) → atoms_under aggs b atoms ≡ Some xs → a ∈ xs → IsBodyAtom a) → all_of (o ∷ map (atom_under aggs b) atoms) ≡ Some atoms' → IsBodyAtom a
@@ -89,9 +89,9 @@ body_atoms aggs b (h ∷ atoms) atoms' e a i = first (atom_under aggs b h) (body
 
 heads_with : (kind : RuleKind) (o : Option GroundAtom) (k : Kind GroundAtom) → kind_with kind o ≡ Some k → (a : GroundAtom) → IsHead k a → o ≡ Some a
 heads_with rule.Plain None k e a h = cc
-heads_with rule.Plain (Some x) k e a h = ap (λ y. Some y) (subst (λ z. IsHead z a) (sym (same_in_some _ k e)) h)
+heads_with rule.Plain (Some x) k e a h = ap (λ y. Some y) (subst (λ z. IsHead z a) (sym (same_Some _ k e)) h)
 heads_with rule.Choice None k e a h = cc
-heads_with rule.Choice (Some x) k e a h = ap (λ y. Some y) (subst (λ z. IsHead z a) (sym (same_in_some _ k e)) h)
+heads_with rule.Choice (Some x) k e a h = ap (λ y. Some y) (subst (λ z. IsHead z a) (sym (same_Some _ k e)) h)
 heads_with rule.Constraint None k e a h = cc
 heads_with rule.Constraint (Some x) k e a h = cc
 
@@ -103,7 +103,7 @@ pub record BecomesHead (aggs : List CoreAggregate) (b : Binding) (head : Option 
 
 pub head_from : (aggs : List CoreAggregate) (b : Binding) (kind : RuleKind) (head : Option CoreAtom) (k : Kind GroundAtom) → kind_under aggs b kind head ≡ Some k
     → (a : GroundAtom) → IsHead k a → BecomesHead aggs b head a
-head_from aggs b rule.Constraint None k e a h = absurd (subst (λ z. IsHead z a) (sym (same_in_some _ k e)) h)
+head_from aggs b rule.Constraint None k e a h = absurd (subst (λ z. IsHead z a) (sym (same_Some _ k e)) h)
 head_from aggs b rule.Plain None k e a h = cc
 head_from aggs b rule.Choice None k e a h = cc
 head_from aggs b kind (Some h) k e a is = record { atom = h; is = refl; becomes = go kind e }
@@ -124,7 +124,7 @@ assembled_from None ps ns i e = cc
 assembled_from (Some kind) None ns i e = cc
 assembled_from (Some kind) (Some ps) None i e = cc
 assembled_from (Some kind) (Some ps) (Some ns) i e =
-    let same = same_in_some _ i e in
+    let same = same_Some _ i e in
     record { kind = ap (λ (j : Instance GroundAtom). Some j.kind) same; pos = ap (λ (j : Instance GroundAtom). Some j.pos) same; neg = ap (λ (j : Instance GroundAtom). Some j.neg) same }
 
 -- the rule of an instance

@@ -1,8 +1,9 @@
 -- An answer set with totals is the user part of a core answer set.
 use Rattle.std.proofs.Common.{◌≡◌, ℕ, suc, zero, ◌+◌, ◌≤◌, ◌<◌, ◌⊎◌, Bool, true, false, ◌&&◌, cond, List, [], ◌∷◌, ◌++◌, length, refl, sym, ◌∙◌, ap, subst, inl, inr, arith}
 use Rattle.std.specs.Prelude.{Some, nat_le, pos, ◌-ℤ◌}
+use Rattle.std.proofs.lemmas.Option.{same_Some}
 use Rattle.lists.specs.Lists.{◌∈◌, HasNoRepeats}
-use Rattle.lists.proofs.ListLemmas.{∈-append_left, ∈-append_right, ∈-append_cases}
+use Rattle.lists.proofs.ListLemmas.{∈-append_left, ∈-append_right, ∈-append_cases, ∈-one, ∈-two}
 use Rattle.core_rules.specs.declared.rules.CoreAggregate.{CoreAggregate}
 use Rattle.search_values.specs.Instances.{Kind, Plain, Choice, Constraint, Instance, IsHead, KindHolds, body_holds}
 use Rattle.search_values.proofs.Basics.{bool_cases, BodyParts, body_parts}
@@ -13,7 +14,6 @@ use Rattle.core_meaning.specs.Numberings.{Numbering, NumbersAll, adds}
 use Rattle.core_meaning.specs.Steps.{Step, step_instance, skip_at, add_at, skip_with, add_with, above_with}
 use Rattle.core_meaning.specs.Steps as step
 use Rattle.aggregate_laws.specs.Rules.{MakerOf, ByRule, ByStep, instance_of, NumbersOnce, IsAnswerSetOf}
-use Rattle.aggregate_laws.proofs.Places.{all1, all2}
 use Rattle.asp_meaning.specs.Atoms.{Atom}
 use Rattle.core_meaning.specs.Steps.{plain}
 use Rattle.search_values.proofs.Basics.{and_left, and_right, and_intro}
@@ -28,7 +28,6 @@ use Rattle.aggregate_laws.proofs.TotalsOfTuples.{sums_same, equal_ints, always_s
 use Rattle.aggregate_laws.proofs.Kept.{kept, kept_in, in_kept, kept_set}
 use Rattle.aggregate_laws.proofs.Renumbering.{is_yes, yes_then, then_yes}
 use Rattle.aggregate_laws.proofs.Sameness.{decide_member}
-use Rattle.aggregate_laws.proofs.Places.{same_in_some}
 use Rattle.aggregate_laws.proofs.Picking.{path_in}
 use Rattle.aggregate_laws.proofs.Rows.{rows, in_rows}
 
@@ -273,19 +272,19 @@ module _ {R D E : Type 0} (aggs : List CoreAggregate) (P : GroundProgram R D E) 
   grid_der : (agg : ℕ) (side : Bool) (key : List Value) → Der (Domain agg key) → (k sum : ℕ) → SumsTo (λ t. Der (Member agg key t)) (adds aggs agg side) (by_extents agg side key) k sum → Der (Grid agg side key k sum)
   unfolding Full always
   grid_der agg side key x k sum none =
-      step_der (step.Zero agg side key) (Grid agg side key 0 0) (Domain agg key ∷ []) [] refl (all1 (λ a. Der a) (Domain agg key) x) (λ n i. absurd i)
+      step_der (step.Zero agg side key) (Grid agg side key 0 0) (Domain agg key ∷ []) [] refl (∈-one (λ a. Der a) (Domain agg key) x) (λ n i. absurd i)
       (grid_true agg side key 0 0 (key_of agg key (der_true _ x)) none)
   grid_der agg side key x k sum (skip {k = j} {sum = s} t e p) =
       let below = grid_der agg side key x j s p in
       let parts = grid_parts agg side key j s (der_true _ below) in
       step_der (step.Skip agg side (suc j) s key) (Grid agg side key (suc j) s) (Grid agg side key j s ∷ []) [] (ap (skip_with agg side j s key) e)
-      (all1 (λ a. Der a) (Grid agg side key j s) below) (λ n i. absurd i)
+      (∈-one (λ a. Der a) (Grid agg side key j s) below) (λ n i. absurd i)
       (grid_true agg side key (suc j) s parts.0 (skip t e parts.1))
   grid_der agg side key x k sum (add {k = j} {sum = s} t e h p) =
       let below = grid_der agg side key x j s p in
       let parts = grid_parts agg side key j s (der_true _ below) in
       step_der (step.Add agg side (suc j) s key) (Grid agg side key (suc j) (s + adds aggs agg side t)) (Grid agg side key j s ∷ Member agg key t ∷ []) [] (ap (add_with aggs agg side j s key) e)
-      (all2 (λ a. Der a) (Grid agg side key j s) (Member agg key t) below h) (λ n i. absurd i)
+      (∈-two (λ a. Der a) (Grid agg side key j s) (Member agg key t) below h) (λ n i. absurd i)
       (grid_true agg side key (suc j) (s + adds aggs agg side t) parts.0 (add t e refl parts.1))
 
   path_der : (agg : ℕ) (side : Bool) (key : List Value) → MembersDer agg key → (k sum : ℕ) → Full agg side key k sum → SumsTo (λ t. Der (Member agg key t)) (adds aggs agg side) (by_extents agg side key) k sum
@@ -295,7 +294,7 @@ module _ {R D E : Type 0} (aggs : List CoreAggregate) (P : GroundProgram R D E) 
   reach_der : (agg : ℕ) (side : Bool) (key : List Value) → Der (Domain agg key) → MembersDer agg key → (sum : ℕ) → Full agg side key (length (by_extents agg side key)) sum → Der (Reach agg side key sum)
   reach_der agg side key x f sum p =
       step_der (step.Reach agg side (length (by_extents agg side key)) sum key) (Reach agg side key sum) (Grid agg side key (length (by_extents agg side key)) sum ∷ []) [] refl
-      (all1 (λ a. Der a) (Grid agg side key (length (by_extents agg side key)) sum) (grid_der agg side key x _ sum (path_der agg side key f _ sum p))) (λ n i. absurd i)
+      (∈-one (λ a. Der a) (Grid agg side key (length (by_extents agg side key)) sum) (grid_der agg side key x _ sum (path_der agg side key f _ sum p))) (λ n i. absurd i)
       (reach_true agg side key sum (key_of agg key (der_true _ x)) p)
 
   above_der : (agg : ℕ) (side : Bool) (key : List Value) → Der (Domain agg key) → MembersDer agg key → (sum : ℕ) → Full agg side key (length (by_extents agg side key)) sum → sum < most agg side key → Der (Above agg side key sum)
@@ -304,7 +303,7 @@ module _ {R D E : Type 0} (aggs : List CoreAggregate) (P : GroundProgram R D E) 
       let high = reach_der agg side key x f (most agg side key) (full_all agg side key) in
       let b : nat_le (suc sum) (most agg side key) ≡ true = lt sum (most agg side key) l in
       step_der (step.Above agg side sum (most agg side key) key) (Above agg side key sum) (Reach agg side key sum ∷ Reach agg side key (most agg side key) ∷ []) [] (ap (above_with agg side sum (most agg side key) key) b)
-      (all2 (λ a. Der a) (Reach agg side key sum) (Reach agg side key (most agg side key)) low high) (λ n i. absurd i)
+      (∈-two (λ a. Der a) (Reach agg side key sum) (Reach agg side key (most agg side key)) low high) (λ n i. absurd i)
       (above_true agg side key sum (der_true _ low) l)
     where
       lt : (a b : ℕ) → a < b → nat_le (suc a) b ≡ true
@@ -317,8 +316,8 @@ module _ {R D E : Type 0} (aggs : List CoreAggregate) (P : GroundProgram R D E) 
       subst (λ v. Der (Total agg key v)) (total_is agg key)
       (step_der (step.Total agg (most agg true key) (most agg false key) key) (Total agg key (value.Int (pos (most agg true key) -ℤ pos (most agg false key))))
       (Reach agg true key (most agg true key) ∷ Reach agg false key (most agg false key) ∷ []) (Above agg true key (most agg true key) ∷ Above agg false key (most agg false key) ∷ []) refl
-      (all2 (λ a. Der a) (Reach agg true key (most agg true key)) (Reach agg false key (most agg false key)) up down)
-      (all2 (λ a. core_set a ≡ false) (Above agg true key (most agg true key)) (Above agg false key (most agg false key)) (not_above agg true key) (not_above agg false key))
+      (∈-two (λ a. Der a) (Reach agg true key (most agg true key)) (Reach agg false key (most agg false key)) up down)
+      (∈-two (λ a. core_set a ≡ false) (Above agg true key (most agg true key)) (Above agg false key (most agg false key)) (not_above agg true key) (not_above agg false key))
       (of_value agg key _ (key_of agg key (der_true _ x)) (total_is agg key)))
 
   -- members whose elements' atoms are derivable
@@ -383,7 +382,7 @@ module _ {R D E : Type 0} (aggs : List CoreAggregate) (P : GroundProgram R D E) 
     where
       go : (m : RuleWithTotals aggs P I) (i : Instance Atom) → rule_with_totals aggs P I m ≡ Some i → IsHead i.kind u → BodyParts I i → ((p : Atom) → (p ∈ i.pos) → stratum p ≤ n → Der (User p)) → Der (User u)
       go m i e hd b below =
-          let same = sym (same_in_some _ _ e) in
+          let same = sym (same_Some _ _ e) in
           with_rule (subst (λ (j : Instance Atom). IsHead j.kind u) same hd) (subst (λ (j : Instance Atom). BodyParts I j) same b) (subst (λ (j : Instance Atom). (p : Atom) → (p ∈ j.pos) → stratum p ≤ n → Der (User p)) same below)
         where
           with_rule : IsHead m.rule.kind u → BodyParts I (record { kind = m.rule.kind; pos = m.rule.pos; neg = m.rule.neg }) → ((p : Atom) → (p ∈ m.rule.pos) → stratum p ≤ n → Der (User p)) → Der (User u)

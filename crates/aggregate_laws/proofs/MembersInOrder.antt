@@ -1,6 +1,8 @@
 -- Members of a set can stand before their sums.
 use Rattle.std.proofs.Common.{◌≡◌, ℕ, suc, ◌+◌, Bool, true, false, List, [], ◌∷◌, refl, sym, ◌∙◌, ap, subst, inl, inr, arith}
 use Rattle.std.specs.Prelude.{Option, Some, nat_le, slice_get, pos, ◌-ℤ◌}
+use Rattle.lists.proofs.Places.{get_of}
+use Rattle.lists.proofs.ListLemmas.{∈-one, ∈-two}
 use Rattle.lists.specs.Lists.{◌∈◌}
 use Rattle.core_rules.specs.declared.rules.CoreAggregate.{CoreAggregate}
 use Rattle.core_rules.specs.declared.rules.Core.{Core}
@@ -18,7 +20,6 @@ use Rattle.aggregate_laws.specs.Rules.{MakerOf, ByRule, ByStep, instance_of, rul
 use Rattle.aggregate_laws.specs.Uses.{used_with, step_uses, uses_of, core_uses}
 use Rattle.aggregate_laws.specs.Totals.{side_sum}
 use Rattle.aggregate_laws.specs.Laws.{HasMembersFirst, MembersCanStandFirst, CoreMembersCanStandFirst}
-use Rattle.aggregate_laws.proofs.Places.{all1, all2, get_of}
 use Rattle.aggregate_laws.proofs.Sums.{SumsTo, none, skip, add, all_picked}
 use Rattle.aggregate_laws.proofs.Picking.{path_map}
 use Rattle.aggregate_laws.proofs.Derivable.{Derivable, Licence, by, derivable}
@@ -114,21 +115,21 @@ module _ {R : Type 0} (aggs : List CoreAggregate) (rules : R → Option (Instanc
       → SumsTo (λ t. c (Member agg key t) ≡ true) (adds aggs agg side) (N agg side key) k sum → Is (Grid agg side key k sum)
   unfolding AllReady
   grid_ready agg side key d all k sum none =
-      makes (step.Zero agg side key) (Grid agg side key 0 0) (Domain agg key ∷ []) [] refl (all1 (λ a. Is a) (Domain agg key) d) (λ n i. absurd i)
+      makes (step.Zero agg side key) (Grid agg side key 0 0) (Domain agg key ∷ []) [] refl (∈-one (λ a. Is a) (Domain agg key) d) (λ n i. absurd i)
       (grid_of aggs rules are N c set.answers agg side key (is_true (Domain agg key) d) 0 0 none) (λ u i h. absurd i)
   grid_ready agg side key d all k sum (skip {k = j} {sum = s} t e p) =
       makes (step.Skip agg side (suc j) s key) (Grid agg side key (suc j) s) (Grid agg side key j s ∷ []) [] (ap (skip_with agg side j s key) e)
-      (all1 (λ a. Is a) (Grid agg side key j s) (grid_ready agg side key d all j s p)) (λ n i. absurd i)
+      (∈-one (λ a. Is a) (Grid agg side key j s) (grid_ready agg side key d all j s p)) (λ n i. absurd i)
       (grid_of aggs rules are N c set.answers agg side key (is_true (Domain agg key) d) (suc j) s (skip t e p)) (used_ready agg side key all j t e)
   grid_ready agg side key d all k sum (add {k = j} {sum = s} t e h p) =
       makes (step.Add agg side (suc j) s key) (Grid agg side key (suc j) (s + adds aggs agg side t)) (Grid agg side key j s ∷ Member agg key t ∷ []) [] (ap (add_with aggs agg side j s key) e)
-      (all2 (λ a. Is a) (Grid agg side key j s) (Member agg key t) (grid_ready agg side key d all j s p) (all t (get_in (N agg side key) j t e) h)) (λ n i. absurd i)
+      (∈-two (λ a. Is a) (Grid agg side key j s) (Member agg key t) (grid_ready agg side key d all j s p) (all t (get_in (N agg side key) j t e) h)) (λ n i. absurd i)
       (grid_of aggs rules are N c set.answers agg side key (is_true (Domain agg key) d) (suc j) (s + adds aggs agg side t) (add t e h p)) (used_ready agg side key all j t e)
 
   reach_ready : (agg : ℕ) (side : Bool) (key : List Value) → Is (Domain agg key) → AllReady agg side key → (k sum : ℕ)
       → SumsTo (λ t. c (Member agg key t) ≡ true) (adds aggs agg side) (N agg side key) k sum → Is (Reach agg side key sum)
   reach_ready agg side key d all k sum p =
-      makes (step.Reach agg side k sum key) (Reach agg side key sum) (Grid agg side key k sum ∷ []) [] refl (all1 (λ a. Is a) (Grid agg side key k sum) (grid_ready agg side key d all k sum p)) (λ n i. absurd i)
+      makes (step.Reach agg side k sum key) (Reach agg side key sum) (Grid agg side key k sum ∷ []) [] refl (∈-one (λ a. Is a) (Grid agg side key k sum) (grid_ready agg side key d all k sum p)) (λ n i. absurd i)
       (reach_of aggs rules are N c set.answers agg side key (is_true (Domain agg key) d) k sum p) (λ u i h. absurd i)
 
   -- ---- what a derivation gives: of sums up to a number, that the members that are added are ready
@@ -189,10 +190,10 @@ module _ {R : Type 0} (aggs : List CoreAggregate) (rules : R → Option (Instanc
       let ups = whole_ready agg true key x.0.1.0 up x.0.1.1 eu in
       let downs = whole_ready agg false key y.0.1.0 down y.0.1.1 ed in
       makes (step.Total agg up down key) (Total agg key (value.Int (pos up -ℤ pos down))) (Reach agg true key up ∷ Reach agg false key down ∷ []) (Above agg true key up ∷ Above agg false key down ∷ []) refl
-      (all2 (λ a. Is a) (Reach agg true key up) (Reach agg false key down)
+      (∈-two (λ a. Is a) (Reach agg true key up) (Reach agg false key down)
       (reach_ready agg true key d ups x.0.1.0 up (path_map (λ t g. is_true (Member agg key t) g) x.0.1.0 up x.0.1.1))
       (reach_ready agg false key d downs y.0.1.0 down (path_map (λ t g. is_true (Member agg key t) g) y.0.1.0 down y.0.1.1)))
-      (all2 (λ x. c x ≡ false) (Above agg true key up) (Above agg false key down) m n) t (λ u i h. absurd i)
+      (∈-two (λ x. c x ≡ false) (Above agg true key up) (Above agg false key down) m n) t (λ u i h. absurd i)
 
   gives : (a : GroundAtom) → Derivable (instance_of aggs rules N) c a → Gives a
   unfolding Is Both
@@ -225,7 +226,7 @@ module _ {R : Type 0} (aggs : List CoreAggregate) (rules : R → Option (Instanc
   above_is agg side key low t (by_above high below l h) =
       let b : nat_le (suc low) high ≡ true = grind arith in
       makes (step.Above agg side low high key) (Above agg side key low) (Reach agg side key low ∷ Reach agg side key high ∷ []) [] (ap (above_with agg side low high key) b)
-      (all2 (λ a. Is a) (Reach agg side key low) (Reach agg side key high) (reach_is agg side key low l) (reach_is agg side key high h)) (λ n i. absurd i) t (λ u i h. absurd i)
+      (∈-two (λ a. Is a) (Reach agg side key low) (Reach agg side key high) (reach_is agg side key low l) (reach_is agg side key high h)) (λ n i. absurd i) t (λ u i h. absurd i)
 
   all_ready : (a : GroundAtom) → c a ≡ true → Is a
   all_ready (User u) t = given (User u) t tt

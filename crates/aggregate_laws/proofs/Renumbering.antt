@@ -2,7 +2,7 @@
 use Rattle.std.proofs.Common.{◌≡◌, ℕ, suc, ◌+◌, ◌⊎◌, Bool, true, false, ◌&&◌, List, [], ◌∷◌, ◌++◌, length, refl, sym, ◌∙◌, ap, subst, inl, inr, arith}
 use Rattle.std.specs.Prelude.{Option, Some, nat_le, pos, ◌-ℤ◌}
 use Rattle.lists.specs.Lists.{◌∈◌}
-use Rattle.lists.proofs.ListLemmas.{∈-append_left, ∈-append_right}
+use Rattle.lists.proofs.ListLemmas.{∈-append_left, ∈-append_right, ∈-one, ∈-two}
 use Rattle.core_rules.specs.declared.rules.CoreAggregate.{CoreAggregate}
 use Rattle.search_values.specs.Instances.{Kind, Plain, Choice, Constraint, Instance, IsHead, KindHolds, body_holds}
 use Rattle.search_values.proofs.Basics.{BodyParts, body_parts}
@@ -13,7 +13,6 @@ use Rattle.core_meaning.specs.Numberings.{Numbering, NumbersAll, adds}
 use Rattle.core_meaning.specs.Steps.{Step, step_instance, skip_at, add_at, skip_with, add_with, above_with}
 use Rattle.core_meaning.specs.Steps as step
 use Rattle.aggregate_laws.specs.Rules.{MakerOf, ByRule, ByStep, instance_of, IsHeadAtom, IsBodyAtom, AreRules, NumbersOnce, IsAnswerSetOf}
-use Rattle.aggregate_laws.proofs.Places.{all1, all2}
 use Rattle.aggregate_laws.proofs.Derivable.{Derivable, Licence, by, derivable, derivable_true, founded_by, closed_at}
 use Rattle.aggregate_laws.proofs.Sums.{SumsTo, none, skip, add}
 use Rattle.aggregate_laws.proofs.Picking.{path_map, path_index, path_moves, decide_sum}
@@ -118,19 +117,19 @@ module _ {R : Type 0} (aggs : List CoreAggregate) (rules : R → Option (Instanc
   -- a grid atom whose path's members are derivable
   grid_der : (agg : ℕ) (side : Bool) (key : List Value) → Der (Domain agg key) → (k sum : ℕ) → SumsTo (λ t. Der (Member agg key t)) (adds aggs agg side) (new agg side key) k sum → Der (Grid agg side key k sum)
   grid_der agg side key x k sum none =
-      derives (step.Zero agg side key) (Grid agg side key 0 0) (Domain agg key ∷ []) [] refl (all1 (λ a. Der a) (Domain agg key) x) (λ n i. absurd i)
+      derives (step.Zero agg side key) (Grid agg side key 0 0) (Domain agg key ∷ []) [] refl (∈-one (λ a. Der a) (Domain agg key) x) (λ n i. absurd i)
       (grid_true agg side key 0 0 (sym (same (Domain agg key) tt) ∙ der_true _ x) none)
   grid_der agg side key x k sum (skip {k = j} {sum = s} t e p) =
       let below = grid_der agg side key x j s p in
       let parts = grid_parts agg side key j s (der_true _ below) in
       derives (step.Skip agg side (suc j) s key) (Grid agg side key (suc j) s) (Grid agg side key j s ∷ []) [] (ap (skip_with agg side j s key) e)
-      (all1 (λ a. Der a) (Grid agg side key j s) below) (λ n i. absurd i)
+      (∈-one (λ a. Der a) (Grid agg side key j s) below) (λ n i. absurd i)
       (grid_true agg side key (suc j) s parts.0 (skip t e parts.1))
   grid_der agg side key x k sum (add {k = j} {sum = s} t e h p) =
       let below = grid_der agg side key x j s p in
       let parts = grid_parts agg side key j s (der_true _ below) in
       derives (step.Add agg side (suc j) s key) (Grid agg side key (suc j) (s + adds aggs agg side t)) (Grid agg side key j s ∷ Member agg key t ∷ []) [] (ap (add_with aggs agg side j s key) e)
-      (all2 (λ a. Der a) (Grid agg side key j s) (Member agg key t) below h) (λ n i. absurd i)
+      (∈-two (λ a. Der a) (Grid agg side key j s) (Member agg key t) below h) (λ n i. absurd i)
       (grid_true agg side key (suc j) (s + adds aggs agg side t) parts.0 (add t e (sym (same (Member agg key t) tt) ∙ der_true _ h) parts.1))
 
   -- what becomes of a derivation under the old numbering
@@ -164,7 +163,7 @@ module _ {R : Type 0} (aggs : List CoreAggregate) (rules : R → Option (Instanc
       let p = path_moves (decide_list decide_value) (λ t. Der (Member agg key t)) (adds aggs agg side) (old agg side key) (new agg side key) (set.numbering.once agg side key)
       (λ z i h. numbers agg side key z (sym (same (Member agg key z) tt) ∙ der_true _ h) (set.numbering.weighs agg side key z i)) k sum m.1 in
       derives (step.Reach agg side (length (new agg side key)) sum key) (Reach agg side key sum) (Grid agg side key (length (new agg side key)) sum ∷ []) [] refl
-      (all1 (λ a. Der a) (Grid agg side key (length (new agg side key)) sum) (grid_der agg side key m.0 (length (new agg side key)) sum p)) (λ n i. absurd i) (same (Reach agg side key sum) tt ∙ t)
+      (∈-one (λ a. Der a) (Grid agg side key (length (new agg side key)) sum) (grid_der agg side key m.0 (length (new agg side key)) sum p)) (λ n i. absurd i) (same (Reach agg side key sum) tt ∙ t)
 
   step_moves : (a : GroundAtom) → NoGrid a ⊎ Unit {0} → c a ≡ true → StepBy aggs old Moves (λ n. c n ≡ false) a → (IsHeadAtom a → Moves a) → Moves a
   unfolding Moves
@@ -176,11 +175,11 @@ module _ {R : Type 0} (aggs : List CoreAggregate) (rules : R → Option (Instanc
   step_moves a u t (by_above {agg = agg} {side = side} {key = key} {low = low} high below x y) f =
       let b : nat_le (suc low) high ≡ true = grind arith in
       derives (step.Above agg side low high key) (Above agg side key low) (Reach agg side key low ∷ Reach agg side key high ∷ []) [] (ap (above_with agg side low high key) b)
-      (all2 (λ a. Der a) (Reach agg side key low) (Reach agg side key high) x y) (λ n i. absurd i) (same (Above agg side key low) tt ∙ t)
+      (∈-two (λ a. Der a) (Reach agg side key low) (Reach agg side key high) x y) (λ n i. absurd i) (same (Above agg side key low) tt ∙ t)
   step_moves a u t (by_total {agg = agg} {key = key} up down x y m n) f =
       derives (step.Total agg up down key) (Total agg key (value.Int (pos up -ℤ pos down))) (Reach agg true key up ∷ Reach agg false key down ∷ []) (Above agg true key up ∷ Above agg false key down ∷ []) refl
-      (all2 (λ a. Der a) (Reach agg true key up) (Reach agg false key down) x y)
-      (all2 (λ a. d a ≡ false) (Above agg true key up) (Above agg false key down) (same (Above agg true key up) tt ∙ m) (same (Above agg false key down) tt ∙ n))
+      (∈-two (λ a. Der a) (Reach agg true key up) (Reach agg false key down) x y)
+      (∈-two (λ a. d a ≡ false) (Above agg true key up) (Above agg false key down) (same (Above agg true key up) tt ∙ m) (same (Above agg false key down) tt ∙ n))
       (same (Total agg key (value.Int (pos up -ℤ pos down))) tt ∙ t)
 
   rule_moves : (a : GroundAtom) (r : R) (l : Licence (instance_of aggs rules old) c a) → rules r ≡ Some l.inst → c a ≡ true → ((p : GroundAtom) → (p ∈ l.inst.pos) → Moves p) → Moves a
@@ -240,8 +239,8 @@ module _ {R : Type 0} (aggs : List CoreAggregate) (rules : R → Option (Instanc
       (sym (same (Reach agg side key low) tt) ∙ b.pos _ (inl refl)) (sym (same (Reach agg side key high) tt) ∙ b.pos _ (inr (inl refl)))
   step_closed i (is_total agg key up down) b =
       same (Total agg key (value.Int (pos up -ℤ pos down))) tt ∙ closed_at set.answers (ByStep (step.Total agg up down key)) _ refl (record {
-        pos = all2 (λ x. c x ≡ true) (Reach agg true key up) (Reach agg false key down) (sym (same (Reach agg true key up) tt) ∙ b.pos _ (inl refl)) (sym (same (Reach agg false key down) tt) ∙ b.pos _ (inr (inl refl)));
-        neg = all2 (λ x. c x ≡ false) (Above agg true key up) (Above agg false key down) (sym (same (Above agg true key up) tt) ∙ b.neg _ (inl refl)) (sym (same (Above agg false key down) tt) ∙ b.neg _ (inr (inl refl)));
+        pos = ∈-two (λ x. c x ≡ true) (Reach agg true key up) (Reach agg false key down) (sym (same (Reach agg true key up) tt) ∙ b.pos _ (inl refl)) (sym (same (Reach agg false key down) tt) ∙ b.pos _ (inr (inl refl)));
+        neg = ∈-two (λ x. c x ≡ false) (Above agg true key up) (Above agg false key down) (sym (same (Above agg true key up) tt) ∙ b.neg _ (inl refl)) (sym (same (Above agg false key down) tt) ∙ b.neg _ (inr (inl refl)));
       })
 
   kind_moves : (k : Kind GroundAtom) → ((a : GroundAtom) → IsHead k a → NoGrid a) → KindHolds c k → KindHolds d k

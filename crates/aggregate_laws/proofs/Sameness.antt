@@ -5,8 +5,8 @@ use Rattle.core_meaning.specs.Atoms.{GroundAtom, User, Domain, Member, Total, Gr
 use Rattle.std.specs.declared.cmp.Ordering.{Ordering}
 use Rattle.std.specs.declared.cmp.Ordering.TheVariants.{Less, Equal, Greater}
 use Rattle.asp_meaning.specs.Orders.{value_cmp}
-use Rattle.asp_laws.proofs.Values.{less_equal, greater_equal, value_same, value_itself}
-use Rattle.asp_laws.proofs.Lines.{same_atom}
+use Rattle.asp_meaning.proofs.ValueOrder.{less_equal, greater_equal, value_same, value_itself}
+use Rattle.asp_meaning.proofs.AtomOrder.{same_atom}
 use Rattle.lists.specs.Lists.{◌∈◌}
 
 -- two values of the type are the same or not

@@ -1,8 +1,8 @@
 -- Sums of some of the members of a list, and the sum of all that count.
 use Rattle.std.proofs.Common.{◌≡◌, ℕ, suc, zero, ◌+◌, ◌≤◌, ◌<◌, ◌⊎◌, inl, inr, ◌∙◌, ap, Bool, true, false, cond, List, [], ◌∷◌, length, refl, sym, subst, arith}
 use Rattle.std.specs.Prelude.{Some, slice_get}
+use Rattle.lists.proofs.Places.{get_below}
 use Rattle.aggregate_laws.specs.Totals.{sum_where}
-use Rattle.aggregate_laws.proofs.Places.{get_below}
 
 -- a sum of some of the first k elements, each of which has the property
 pub data SumsTo {T : Type 0} (P : T → Type 0) (size : T → ℕ) (xs : List T) : ℕ → ℕ → Type 0 where

@@ -1,6 +1,7 @@
 -- The user atoms of a core answer set are an answer set with totals.
 use Rattle.std.proofs.Common.{◌≡◌, ℕ, ◌⊎◌, Bool, true, false, List, [], ◌∷◌, ◌++◌, refl, sym, ◌∙◌, ap, subst, inl, inr, arith}
 use Rattle.std.specs.Prelude.{Option, Some}
+use Rattle.std.proofs.lemmas.Option.{same_Some}
 use Rattle.lists.specs.Lists.{◌∈◌, HasNoRepeats}
 use Rattle.lists.proofs.ListLemmas.{∈-append_left, ∈-append_right, ∈-append_cases}
 use Rattle.core_rules.specs.declared.rules.CoreAggregate.{CoreAggregate}
@@ -12,7 +13,7 @@ use Rattle.core_meaning.specs.Numberings.{Numbering, adds}
 use Rattle.aggregate_laws.specs.Rules.{MakerOf, ByRule, ByStep, instance_of, IsAnswerSetOf}
 use Rattle.aggregate_laws.specs.Totals.{side_sum, total_in}
 use Rattle.asp_meaning.specs.Atoms.{Atom}
-use Rattle.asp_laws.proofs.Lines.{same_atom}
+use Rattle.asp_meaning.proofs.AtomOrder.{same_atom}
 use Rattle.aggregate_laws.specs.TotalsInBodies.{NeededTotal, GroundProgram, GivesTuple, IsExtentOf, sum_sizes, total_of_tuples, HasTotal, RuleWithTotals, rule_with_totals, IsAnswerSetWithTotals, CoreMaker, FromRule, FromDomain, FromElement, user_atoms, total_atoms, user_kind, core_rule, core_domain, core_element, core_rules, AllCome, HasDomains}
 use Rattle.aggregate_laws.specs.Laws.{CoreSetsBecomeAnswerSets}
 use Rattle.aggregate_laws.proofs.Derivable.{Derivable, by, derivable, founded_by, closed_at}
@@ -20,7 +21,6 @@ use Rattle.aggregate_laws.proofs.Totals.{inst, step_is, step_not_base, total_the
 use Rattle.aggregate_laws.proofs.Sameness.{Decides, decide_list, decide_nat, decide_value}
 use Rattle.aggregate_laws.proofs.CoreOfTotals.{in_users, users_in, in_totals, totals_in, RuleIs, of_rule, of_domain, of_element, rule_is, are_rules}
 use Rattle.aggregate_laws.proofs.TotalsOfTuples.{sums_below, sums_above, sums_same, equal_ints}
-use Rattle.aggregate_laws.proofs.Places.{same_in_some}
 
 -- lists taken out of a founded order
 
@@ -229,7 +229,7 @@ module _ {R D E : Type 0} (aggs : List CoreAggregate) (P : GroundProgram R D E) 
 
   totals_closed : (m : RuleWithTotals aggs P user_part) (i : Instance Atom) → rule_with_totals aggs P user_part m ≡ Some i → body_holds user_part i ≡ true → KindHolds user_part i.kind
   totals_closed m i e b =
-      let same = same_in_some _ _ e in
+      let same = same_Some _ _ e in
       subst (λ (j : Instance Atom). KindHolds user_part j.kind) same (go (subst (λ (j : Instance Atom). BodyParts user_part j) (sym same) (body_parts user_part i b)))
     where
       go : BodyParts user_part (record { kind = m.rule.kind; pos = m.rule.pos; neg = m.rule.neg }) → KindHolds user_part m.rule.kind

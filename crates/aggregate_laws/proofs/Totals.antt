@@ -1,6 +1,8 @@
 -- In a set that is closed and founded the total of a key is that of its members.
 use Rattle.std.proofs.Common.{◌≡◌, ℕ, suc, zero, ◌+◌, ◌≤◌, ◌<◌, ◌⊎◌, Bool, true, false, List, [], ◌∷◌, length, refl, sym, ◌∙◌, ap, subst, inl, inr, arith}
 use Rattle.std.specs.Prelude.{Option, Some, None, nat_le, slice_get, pos, ◌-ℤ◌}
+use Rattle.std.proofs.lemmas.Option.{same_Some}
+use Rattle.lists.proofs.ListLemmas.{∈-one, ∈-two}
 use Rattle.lists.specs.Lists.{◌∈◌}
 use Rattle.core_rules.specs.declared.rules.CoreAggregate.{CoreAggregate}
 use Rattle.search_values.specs.Instances.{Plain, Instance, IsHead}
@@ -14,10 +16,8 @@ use Rattle.core_meaning.specs.Steps as step
 use Rattle.aggregate_laws.specs.Rules.{MakerOf, ByRule, ByStep, instance_of, IsHeadAtom, AreRules, IsFoundedSet}
 use Rattle.aggregate_laws.specs.Totals.{side_sum, total_in}
 use Rattle.aggregate_laws.specs.Laws.{TotalsAreExact}
-use Rattle.aggregate_laws.proofs.Places.{all1, all2}
 use Rattle.aggregate_laws.proofs.Derivable.{Derivable, Licence, by, derivable, closed_at}
 use Rattle.aggregate_laws.proofs.Sums.{SumsTo, none, skip, add, full_sum, sum_most}
-use Rattle.aggregate_laws.proofs.Places.{same_in_some}
 
 -- an instance that makes its head follow
 abbrev pub inst : {A : Type 0} → A → List A → List A → Instance A
@@ -50,26 +50,26 @@ pub data StepBy (aggs : List CoreAggregate) (N : Numbering) (P Q : GroundAtom �
 
 module _ (aggs : List CoreAggregate) (N : Numbering) where
   pub step_is : (s : Step) (i : Instance GroundAtom) → step_instance aggs N s ≡ Some i → StepIs aggs N i
-  step_is (step.Zero agg side key) i e = subst (λ j. StepIs aggs N j) (same_in_some _ _ e) (is_zero agg side key)
+  step_is (step.Zero agg side key) i e = subst (λ j. StepIs aggs N j) (same_Some _ _ e) (is_zero agg side key)
   step_is (step.Skip agg side zero sum key) i e = cc
   step_is (step.Skip agg side (suc k) sum key) i e = go (slice_get (N agg side key) k) refl e
     where
       go : (o : Option (List Value)) → slice_get (N agg side key) k ≡ o → skip_with agg side k sum key o ≡ Some i → StepIs aggs N i
       go None o e = cc
-      go (Some t) o e = subst (λ j. StepIs aggs N j) (same_in_some _ _ e) (is_skip agg side key k sum t o)
+      go (Some t) o e = subst (λ j. StepIs aggs N j) (same_Some _ _ e) (is_skip agg side key k sum t o)
   step_is (step.Add agg side zero sum key) i e = cc
   step_is (step.Add agg side (suc k) sum key) i e = go (slice_get (N agg side key) k) refl e
     where
       go : (o : Option (List Value)) → slice_get (N agg side key) k ≡ o → add_with aggs agg side k sum key o ≡ Some i → StepIs aggs N i
       go None o e = cc
-      go (Some t) o e = subst (λ j. StepIs aggs N j) (same_in_some _ _ e) (is_add agg side key k sum t o)
-  step_is (step.Reach agg side k sum key) i e = subst (λ j. StepIs aggs N j) (same_in_some _ _ e) (is_reach agg side key k sum)
+      go (Some t) o e = subst (λ j. StepIs aggs N j) (same_Some _ _ e) (is_add agg side key k sum t o)
+  step_is (step.Reach agg side k sum key) i e = subst (λ j. StepIs aggs N j) (same_Some _ _ e) (is_reach agg side key k sum)
   step_is (step.Above agg side low high key) i e = go (nat_le (suc low) high) refl e
     where
       go : (b : Bool) → nat_le (suc low) high ≡ b → above_with agg side low high key b ≡ Some i → StepIs aggs N i
       go false h e = cc
-      go true h e = let below : low < high = grind arith in subst (λ j. StepIs aggs N j) (same_in_some _ _ e) (is_above agg side key low high below)
-  step_is (step.Total agg up down key) i e = subst (λ j. StepIs aggs N j) (same_in_some _ _ e) (is_total agg key up down)
+      go true h e = let below : low < high = grind arith in subst (λ j. StepIs aggs N j) (same_Some _ _ e) (is_above agg side key low high below)
+  step_is (step.Total agg up down key) i e = subst (λ j. StepIs aggs N j) (same_Some _ _ e) (is_total agg key up down)
 
   pub step_by : (P Q : GroundAtom → Type 0) (i : Instance GroundAtom) → StepIs aggs N i → (a : GroundAtom) → IsHead i.kind a
       → ((p : GroundAtom) → (p ∈ i.pos) → P p) → ((n : GroundAtom) → (n ∈ i.neg) → Q n) → StepBy aggs N P Q a
@@ -147,18 +147,18 @@ module _ {R : Type 0} (aggs : List CoreAggregate) (rules : R → Option (Instanc
 
     -- and each such sum is in the set
     pub grid_of : (agg : ℕ) (side : Bool) (key : List Value) → c (Domain agg key) ≡ true → (k sum : ℕ) → SumsTo (λ t. c (Member agg key t) ≡ true) (adds aggs agg side) (N agg side key) k sum → c (Grid agg side key k sum) ≡ true
-    grid_of agg side key d k sum none = fires (step.Zero agg side key) (Grid agg side key 0 0) (Domain agg key ∷ []) [] refl (all1 (λ x. c x ≡ true) (Domain agg key) d) (λ n i. absurd i)
+    grid_of agg side key d k sum none = fires (step.Zero agg side key) (Grid agg side key 0 0) (Domain agg key ∷ []) [] refl (∈-one (λ x. c x ≡ true) (Domain agg key) d) (λ n i. absurd i)
     grid_of agg side key d k sum (skip {k = j} {sum = s} t e p) =
         fires (step.Skip agg side (suc j) s key) (Grid agg side key (suc j) s) (Grid agg side key j s ∷ []) [] (ap (skip_with agg side j s key) e)
-        (all1 (λ x. c x ≡ true) (Grid agg side key j s) (grid_of agg side key d j s p)) (λ n i. absurd i)
+        (∈-one (λ x. c x ≡ true) (Grid agg side key j s) (grid_of agg side key d j s p)) (λ n i. absurd i)
     grid_of agg side key d k sum (add {k = j} {sum = s} t e h p) =
         fires (step.Add agg side (suc j) s key) (Grid agg side key (suc j) (s + adds aggs agg side t)) (Grid agg side key j s ∷ Member agg key t ∷ []) [] (ap (add_with aggs agg side j s key) e)
-        (all2 (λ x. c x ≡ true) (Grid agg side key j s) (Member agg key t) (grid_of agg side key d j s p) h) (λ n i. absurd i)
+        (∈-two (λ x. c x ≡ true) (Grid agg side key j s) (Member agg key t) (grid_of agg side key d j s p) h) (λ n i. absurd i)
 
     pub reach_of : (agg : ℕ) (side : Bool) (key : List Value) → c (Domain agg key) ≡ true → (k sum : ℕ) → SumsTo (λ t. c (Member agg key t) ≡ true) (adds aggs agg side) (N agg side key) k sum → c (Reach agg side key sum) ≡ true
     reach_of agg side key d k sum p =
         fires (step.Reach agg side k sum key) (Reach agg side key sum) (Grid agg side key k sum ∷ []) [] refl
-        (all1 (λ x. c x ≡ true) (Grid agg side key k sum) (grid_of agg side key d k sum p)) (λ n i. absurd i)
+        (∈-one (λ x. c x ≡ true) (Grid agg side key k sum) (grid_of agg side key d k sum p)) (λ n i. absurd i)
 
     pub reach_by : (agg : ℕ) (side : Bool) (key : List Value) (sum : ℕ) → c (Reach agg side key sum) ≡ true
         → (c (Domain agg key) ≡ true) × ((k : ℕ) × SumsTo (λ t. c (Member agg key t) ≡ true) (adds aggs agg side) (N agg side key) k sum)
@@ -189,7 +189,7 @@ module _ {R : Type 0} (aggs : List CoreAggregate) (rules : R → Option (Instanc
     above_less agg side key low high below l h =
         let b : nat_le (suc low) high ≡ true = grind arith in
         fires (step.Above agg side low high key) (Above agg side key low) (Reach agg side key low ∷ Reach agg side key high ∷ []) [] (ap (above_with agg side low high key) b)
-        (all2 (λ x. c x ≡ true) (Reach agg side key low) (Reach agg side key high) l h) (λ n i. absurd i)
+        (∈-two (λ x. c x ≡ true) (Reach agg side key low) (Reach agg side key high) l h) (λ n i. absurd i)
 
     -- the highest reached sum is the sum of all members in the set
     pub reach_highest : (agg : ℕ) (side : Bool) (key : List Value) (sum : ℕ) → c (Domain agg key) ≡ true → c (Reach agg side key sum) ≡ true → c (Above agg side key sum) ≡ false → sum ≡ side_sum aggs N c agg key side
@@ -208,8 +208,8 @@ module _ {R : Type 0} (aggs : List CoreAggregate) (rules : R → Option (Instanc
         let up = side_sum aggs N c agg key true in
         let down = side_sum aggs N c agg key false in
         fires (step.Total agg up down key) (Total agg key (total_in aggs N c agg key)) (Reach agg true key up ∷ Reach agg false key down ∷ []) (Above agg true key up ∷ Above agg false key down ∷ []) refl
-        (all2 (λ x. c x ≡ true) (Reach agg true key up) (Reach agg false key down) (reach_full agg true key d) (reach_full agg false key d))
-        (all2 (λ x. c x ≡ false) (Above agg true key up) (Above agg false key down) (not_above agg true key) (not_above agg false key))
+        (∈-two (λ x. c x ≡ true) (Reach agg true key up) (Reach agg false key down) (reach_full agg true key d) (reach_full agg false key d))
+        (∈-two (λ x. c x ≡ false) (Above agg true key up) (Above agg false key down) (not_above agg true key) (not_above agg false key))
 
     -- and no other
     pub total_only : (agg : ℕ) (key : List Value) (v : Value) → c (Total agg key v) ≡ true → (c (Domain agg key) ≡ true) × (v ≡ total_in aggs N c agg key)

@@ -1,8 +1,8 @@
 -- Numbers above those of anonymous variables, part by part.
 use Rattle.std.proofs.Common.{◌≡◌, refl, sym, ap, ◌∙◌, ℕ, max, List, [], ◌∷◌, ◌++◌, map, Option, Some, None, arith}
 use Rattle.lists.specs.Lists.{concat}
-use Rattle.choice_rewrite.specs.declared.single.SingleRule.{SingleRule}
-use Rattle.choice_rewrite.specs.SingleRules.{head_of, as_statement}
+use Rattle.single_rules.specs.declared.single.SingleRule.{SingleRule}
+use Rattle.single_rules.specs.SingleRules.{head_of, as_statement}
 use Rattle.alpha_outside.specs.declared.kinds.ArithOp.{ArithOp}
 use Rattle.asp_syntax.specs.declared.tree.Atom.{Atom}
 use Rattle.asp_syntax.specs.declared.tree.Term.{Term}

@@ -3,7 +3,7 @@ use Rattle.std.specs.Prelude.{List, [], ◌∷◌, map}
 use Rattle.lists.specs.Lists.{concat}
 use Rattle.asp_syntax.specs.declared.tree.Term.{Term}
 use Rattle.asp_syntax.specs.declared.tree.Atom.{Atom}
-use Rattle.choice_rewrite.specs.declared.single.SingleRule.{SingleRule}
+use Rattle.single_rules.specs.declared.single.SingleRule.{SingleRule}
 use Rattle.rewriting.specs.Parts.{Comparison}
 use Rattle.rewriting.specs.Lifting.{LiftedRule}
 use Rattle.aggregate_rewrite.specs.declared.lifting.LiftedBody.{LiftedBody}

@@ -7,7 +7,7 @@ ghost use Rattle.rewriting.specs.Numbering.{atom_terms};
 ghost use Rattle.rewriting.specs.Lifting.{free_above, free_in};
 
 use asp_syntax::{Atom, Guard, Item, Literal, Term};
-use choice_rewrite::SingleRule;
+use single_rules::SingleRule;
 
 // The first number above those of the anonymous variables of a term.
 fn above_term(term: &Term) -> usize

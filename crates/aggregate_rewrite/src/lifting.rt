@@ -13,7 +13,7 @@ use crate::number::number;
 use crate::parts::{comparisons_of, negatives_of};
 use alpha_outside::{List, OutOfMemory};
 use asp_syntax::{Atom, CompareOp, Item, Literal, Term};
-use choice_rewrite::SingleRule;
+use single_rules::SingleRule;
 use std::alloc::Global;
 
 /// The equations for what went out so far, and the first number that is free.

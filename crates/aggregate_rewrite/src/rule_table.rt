@@ -11,7 +11,7 @@ use crate::lifting::LiftedBody;
 use crate::table::Table;
 use alpha_outside::OutOfMemory;
 use asp_syntax::Atom;
-use choice_rewrite::SingleRule;
+use single_rules::SingleRule;
 use std::alloc::Global;
 
 // Puts in the variables of a head.

@@ -6,8 +6,8 @@ ghost use Rattle.asp_meaning.specs.Atoms.{Atom as Fact};
 ghost use Rattle.core_rules.specs.CoreForm.{IsCoreForm};
 ghost use Rattle.core_rules.specs.Names.{IsNamedCore};
 ghost use Rattle.core_meaning.specs.AnswerSets.{HasCoreSets, AreDetermined};
-ghost use Rattle.choice_rewrite.specs.SingleRules.{AreSingleRules, IsWellFormedRule};
-ghost use Rattle.choice_rewrite.specs.AnswerSets.{IsSingleAnswerSet};
+ghost use Rattle.single_rules.specs.SingleRules.{AreSingleRules, IsWellFormedRule};
+ghost use Rattle.single_rules.specs.AnswerSets.{IsSingleAnswerSet};
 ghost use Rattle.rewriting.specs.Parts.{HasNoAggregate};
 ghost use Rattle.rewriting.specs.CoreRules.{number_rule, core_rule_of, core_of};
 ghost use Rattle.aggregate_rewrite.specs.Lifters.{lifted_rule};
@@ -16,9 +16,9 @@ use crate::lifting::{LiftedBody, lift_rule};
 use crate::numbering::{number_atoms, number_head, number_terms, number_tests};
 use crate::rule_table::table_of;
 use alpha_outside::{List, OutOfMemory};
-use choice_rewrite::SingleRule;
 use core_rules::{Core, CoreRule};
 use rewriting::{core_rules_have_core_form, core_rules_keep_answer_sets};
+use single_rules::SingleRule;
 use std::alloc::Global;
 
 // The core rule of a rule whose body was lifted.

@@ -1,13 +1,13 @@
 ghost use Rattle.std.specs.Prelude.{IfOk};
 ghost use Rattle.lists.specs.Lists.{Each};
-ghost use Rattle.choice_rewrite.specs.SingleRules.{AreSingleRules, IsWellFormedRule};
+ghost use Rattle.single_rules.specs.SingleRules.{AreSingleRules, IsWellFormedRule};
 ghost use Rattle.rewriting.specs.Parts.{HasNoAggregate};
 
 use crate::rewrite;
 use alpha_outside::{ArithOp, Boxed, List, Name, OutOfMemory, Pred, RuleKind};
 use asp_syntax::{Atom, CompareOp, Item, Literal, Term};
-use choice_rewrite::SingleRule;
 use core_rules::{CoreAtom, CoreRule, CoreTerm, Test};
+use single_rules::SingleRule;
 use std::alloc::Global;
 use std::test::Fail;
 

@@ -8,9 +8,11 @@ use Rattle.asp_syntax.specs.declared.tree.Term.TheOpen.{Term-F}
 use Rattle.asp_syntax.specs.declared.tree.Term.TheOpen as layer
 use Rattle.asp_syntax.specs.declared.tree.Term.TheViews.{roll-Term}
 use Rattle.asp_syntax.specs.declared.tree.Term.TheFolds.{fold-roll-Term}
+use Rattle.asp_syntax.specs.declared.tree.Term.TheVariants as tree
 use Rattle.asp_meaning.specs.Terms.{Variable}
 use Rattle.asp_meaning.specs.Variables.{variables, variables_step}
 use Rattle.asp_safety.specs.Binding.{variables_of}
+use Rattle.single_rules.specs.Renaming.{rename_step, renamed}
 use Rattle.rewriting.specs.Lifting.{Lifted, lift_each, call_with, lift_term}
 use Rattle.rewriting.proofs.TermInduction.{children, by_children}
 use Rattle.rewriting.proofs.NumberedTerms.{has_arithmetic, arithmetic_step}
@@ -71,9 +73,12 @@ list_variables (t ∷ ts) h built =
     λ i. first i ++ rest i
 
 no_variables : (t : Term) → IsBuiltTerm t → variables t ≡ []
-no_variables = by_children (λ t. IsBuiltTerm t → variables t ≡ []) (λ y h built. fold-roll-Term (List Variable) variables_step y ∙ of_layer y h (layer_built y built))
+no_variables =
+    by_children (λ t. IsBuiltTerm t → variables t ≡ [])
+    (λ y h built. fold-roll-Term (List Variable) variables_step y ∙ of_layer y h (layer_built y built))
   where
-    of_layer : (y : Term-F Term) → ((u : Term) → u ∈ children y → IsBuiltTerm u → variables u ≡ []) → IsBuiltLayer y → variables_step (map-Term Term (List Variable) variables y) ≡ []
+    of_layer : (y : Term-F Term) → ((u : Term) → u ∈ children y → IsBuiltTerm u → variables u ≡ []) → IsBuiltLayer y
+        → variables_step (map-Term Term (List Variable) variables y) ≡ []
     of_layer (layer.Int n) h built = refl
     of_layer (layer.Variable x) h built = absurd built
     of_layer (layer.Anonymous k) h built = absurd built
@@ -90,7 +95,8 @@ built_variables ts built = list_variables ts (λ u k. no_variables u) built
 -- ---- arithmetic
 
 -- the same of arithmetic
-list_arithmetic : (ts : List Term) → ((u : Term) → u ∈ ts → IsBuiltTerm u → has_arithmetic u ≡ false) → Each IsBuiltTerm ts → list_any (λ there. there) (map has_arithmetic ts) ≡ false
+list_arithmetic : (ts : List Term) → ((u : Term) → u ∈ ts → IsBuiltTerm u → has_arithmetic u ≡ false) → Each IsBuiltTerm ts
+    → list_any (λ there. there) (map has_arithmetic ts) ≡ false
 list_arithmetic [] h built = refl
 list_arithmetic (t ∷ ts) h built =
     let first = h t (inl refl) built.0 in
@@ -99,9 +105,12 @@ list_arithmetic (t ∷ ts) h built =
 
 -- a built term has no arithmetic
 pub built_arithmetic : (t : Term) → IsBuiltTerm t → has_arithmetic t ≡ false
-built_arithmetic = by_children (λ t. IsBuiltTerm t → has_arithmetic t ≡ false) (λ y h built. fold-roll-Term Bool arithmetic_step y ∙ of_layer y h (layer_built y built))
+built_arithmetic =
+    by_children (λ t. IsBuiltTerm t → has_arithmetic t ≡ false)
+    (λ y h built. fold-roll-Term Bool arithmetic_step y ∙ of_layer y h (layer_built y built))
   where
-    of_layer : (y : Term-F Term) → ((u : Term) → u ∈ children y → IsBuiltTerm u → has_arithmetic u ≡ false) → IsBuiltLayer y → arithmetic_step (map-Term Term Bool has_arithmetic y) ≡ false
+    of_layer : (y : Term-F Term) → ((u : Term) → u ∈ children y → IsBuiltTerm u → has_arithmetic u ≡ false) → IsBuiltLayer y
+        → arithmetic_step (map-Term Term Bool has_arithmetic y) ≡ false
     of_layer (layer.Int n) h built = refl
     of_layer (layer.Variable x) h built = absurd built
     of_layer (layer.Anonymous k) h built = absurd built
@@ -110,6 +119,38 @@ built_arithmetic = by_children (λ t. IsBuiltTerm t → has_arithmetic t ≡ fal
     of_layer (layer.Fun f args) h built = list_arithmetic args h built
     of_layer (layer.Minus t) h built = absurd built
     of_layer (layer.Arith op l r) h built = absurd built
+
+-- ---- names
+
+-- the same of terms with other names for variables
+list_renamed : (r : Variable → Variable) (ts : List Term) → ((u : Term) → u ∈ ts → IsBuiltTerm u → renamed r u ≡ u) → Each IsBuiltTerm ts
+    → map (renamed r) ts ≡ ts
+list_renamed r [] h built = refl
+list_renamed r (t ∷ ts) h built =
+    let first = h t (inl refl) built.0 in
+    let rest = list_renamed r ts (λ u k. h u (inr k)) built.1 in
+    λ i. first i ∷ rest i
+
+-- a built term is the same with other names for variables
+renamed_stays : (r : Variable → Variable) (t : Term) → IsBuiltTerm t → renamed r t ≡ t
+renamed_stays r =
+    by_children (λ t. IsBuiltTerm t → renamed r t ≡ t)
+    (λ y h built. fold-roll-Term Term (rename_step r) y ∙ of_layer y h (layer_built y built))
+  where
+    of_layer : (y : Term-F Term) → ((u : Term) → u ∈ children y → IsBuiltTerm u → renamed r u ≡ u) → IsBuiltLayer y
+        → rename_step r (map-Term Term Term (renamed r) y) ≡ roll-Term y
+    of_layer (layer.Int n) h built = sym (tree.rolls-Int n)
+    of_layer (layer.Variable x) h built = absurd built
+    of_layer (layer.Anonymous j) h built = absurd built
+    of_layer (layer.Symbol x) h built = sym (tree.rolls-Symbol x)
+    of_layer (layer.Text x) h built = sym (tree.rolls-Text x)
+    of_layer (layer.Fun f args) h built = ap (tree.Fun f) (list_renamed r args h built) ∙ sym (tree.rolls-Fun f args)
+    of_layer (layer.Minus t) h built = absurd built
+    of_layer (layer.Arith op x y) h built = absurd built
+
+-- and so are built terms
+pub renamed_stay : (r : Variable → Variable) (ts : List Term) → Each IsBuiltTerm ts → map (renamed r) ts ≡ ts
+renamed_stay r ts built = list_renamed r ts (λ u k. renamed_stays r u) built
 
 -- ---- lifting
 
@@ -130,7 +171,8 @@ list_stays f (x ∷ xs) stay k =
       equations = first.equations ++ (lift_each f xs first.next).equations;
       next = (lift_each f xs first.next).next;
     }) (stay.0 k)
-    ∙ ap (λ (rest : Lifted (List _)). record { lifted = x ∷ rest.lifted; equations = rest.equations; next = rest.next }) (list_stays f xs stay.1 k)
+    ∙ ap (λ (rest : Lifted (List _)). record { lifted = x ∷ rest.lifted; equations = rest.equations; next = rest.next })
+    (list_stays f xs stay.1 k)
 
 -- each of a list of built terms stays, where that is known of its members
 terms_stay : (ts : List Term) → ((u : Term) → u ∈ ts → IsBuiltTerm u → Stays lift_term u) → Each IsBuiltTerm ts → Each (Stays lift_term) ts
@@ -141,7 +183,8 @@ terms_stay (t ∷ ts) h built = (h t (inl refl) built.0, terms_stay ts (λ u k. 
 pub built_stays : (t : Term) → IsBuiltTerm t → Stays lift_term t
 built_stays = by_children (λ t. IsBuiltTerm t → Stays lift_term t) (λ y h built k. lift_roll y k ∙ of_layer y h (layer_built y built) k)
   where
-    of_layer : (y : Term-F Term) → ((u : Term) → u ∈ children y → IsBuiltTerm u → Stays lift_term u) → IsBuiltLayer y → (k : ℕ) → lift_layer y k ≡ whole (roll-Term y) k
+    of_layer : (y : Term-F Term) → ((u : Term) → u ∈ children y → IsBuiltTerm u → Stays lift_term u) → IsBuiltLayer y → (k : ℕ)
+        → lift_layer y k ≡ whole (roll-Term y) k
     of_layer (layer.Int n) h built k = refl
     of_layer (layer.Variable x) h built k = absurd built
     of_layer (layer.Anonymous j) h built k = absurd built

@@ -9,22 +9,17 @@ use Rattle.core_rules.specs.declared.rules.Core.{Core}
 use Rattle.core_rules.specs.CoreForm.{IsCoreForm}
 use Rattle.core_rules.specs.Names.{IsNamedCore}
 use Rattle.core_meaning.specs.AnswerSets.{HasCoreSets}
-use Rattle.choice_rewrite.specs.declared.single.SingleRule.{SingleRule}
-use Rattle.choice_rewrite.specs.AnswerSets.{IsSingleAnswerSet}
-use Rattle.choice_rewrite.specs.Splitting.{singles_of}
-use Rattle.choice_rewrite.specs.Conditions.{IsSplittable}
+use Rattle.single_rules.specs.declared.single.SingleRule.{SingleRule}
+use Rattle.single_rules.specs.AnswerSets.{IsSingleAnswerSet}
+use Rattle.single_rules.specs.Splitting.{singles_of}
 use Rattle.rewriting.specs.Parts.{HasNoAggregate}
 use Rattle.rewriting.specs.CoreRules.{core_of}
 use Rattle.search_rules.specs.Stage.{IsGroundRule, IsGroundCore}
 use Rattle.alpha.specs.Built.{unbuilt}
 use Rattle.alpha.specs.Journals.{core_for}
-use Rattle.alpha.proofs.BuiltLemmas.{built_splittable, built_no_aggregates, built_ground}
+use Rattle.alpha.proofs.BuiltLemmas.{built_no_aggregates, built_ground}
 
 module _ (P given : List Statement) (kept : given ≡ P) (built : unbuilt P ≡ None) where
-  -- what was kept of a built program can be split
-  pub can_split : Each IsSplittable given
-  can_split = subst (Each IsSplittable) (sym kept) (built_splittable P built)
-
   module _ (rules : List SingleRule) (split : rules ≡ singles_of given) where
     singles : rules ≡ singles_of P
     singles = split ∙ ap singles_of kept

@@ -1,4 +1,5 @@
 pub mod BuiltTerms
+pub mod BuiltSigns
 pub mod BuiltLemmas
 pub mod CoreLemmas
 pub mod TextLemmas

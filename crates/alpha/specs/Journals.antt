@@ -4,7 +4,7 @@ use Rattle.alpha_outside.specs.declared.event.Event.{Event}
 use Rattle.alpha_outside.specs.declared.event.Event.TheVariants as event
 use Rattle.asp_syntax.specs.declared.tree.Statement.{Statement}
 use Rattle.core_rules.specs.declared.rules.Core.{Core}
-use Rattle.choice_rewrite.specs.Splitting.{singles_of}
+use Rattle.single_rules.specs.Splitting.{singles_of}
 use Rattle.rewriting.specs.CoreRules.{core_of}
 use Rattle.search_values.specs.Instances.{Rules}
 use Rattle.search_theory.specs.Journals.{Legal, SaysAll, replay}

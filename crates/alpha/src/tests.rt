@@ -110,6 +110,82 @@ fn atoms_with_arguments(rt: HostRuntime) -> Result<(), Fail> {
 }
 
 #[test]
+fn what_may_be_chosen(rt: HostRuntime) -> Result<(), Fail> {
+    let rows = [
+        (
+            b"{a}. {a}.".as_slice(),
+            "0 {a}\n{}\n% complete, 2 printed\n||2",
+        ),
+        (
+            b"{a}. :- not a.".as_slice(),
+            "0 {a}\n% complete, 1 printed\n||1",
+        ),
+        (
+            b"{x}. a :- x, not b, not c. b :- y. c :- y. :- a.".as_slice(),
+            "0 {}\n% complete, 1 printed\n||1",
+        ),
+        (
+            b"{a : b}. {b : a}.".as_slice(),
+            "0 {}\n% complete, 1 printed\n||1",
+        ),
+        (
+            b"{p(1) : q; p(2) : not q, not r} :- s. s. {q}.".as_slice(),
+            "0 {p(2), s}\n{p(1), q, s}\n{q, s}\n{s}\n% complete, 4 printed\n||4",
+        ),
+    ];
+    for (text, want) in rows {
+        assert_eq!(rt; solved(rt.alloc(), text)?.as_str(), want);
+    }
+    Ok(())
+}
+
+// Whether the last event is a set.
+fn ends_with_a_set(events: &[Event]) -> bool {
+    match events.last() {
+        Some(event) => matches!(event, Event::Shown { .. }),
+        None => false,
+    }
+}
+
+// The body of the choice had to be true before it was chosen, so no literal was chosen, and the set is the last one.
+#[test]
+fn a_choice_that_must_be_taken_ends_with_its_set(rt: HostRuntime) -> Result<(), Fail> {
+    let alloc = rt.alloc();
+    let words = owned(alloc, "solve p.lp")?;
+    let mut shelf = MemShelf::new(alloc, List::new(alloc));
+    shelf.add(alloc, b"p.lp", b"{a}. :- not a.")?;
+    let mut out = MemSink::new(alloc, List::new(alloc), 0);
+    let mut err = MemSink::new(alloc, List::new(alloc), 0);
+    let mut trace = MemTrace::new(alloc, List::new(alloc));
+    let status = run(alloc, &words, &mut shelf, &mut out, &mut err, &mut trace);
+    assert_eq!(rt; status.code(), 0);
+    assert!(rt; ends_with_a_set(trace.events()));
+    Ok(())
+}
+
+#[test]
+fn what_is_known_to_be_false(rt: HostRuntime) -> Result<(), Fail> {
+    let rows = [
+        (
+            b"-a. a :- not b.".as_slice(),
+            "0 % complete, 0 printed\n||0",
+        ),
+        (
+            b"-a. b :- not a. -c :- -a, not -d.".as_slice(),
+            "0 {-a, b, -c}\n% complete, 1 printed\n||1",
+        ),
+        (
+            b"{a; -a}.".as_slice(),
+            "0 {a}\n{-a}\n{}\n% complete, 3 printed\n||3",
+        ),
+    ];
+    for (text, want) in rows {
+        assert_eq!(rt; solved(rt.alloc(), text)?.as_str(), want);
+    }
+    Ok(())
+}
+
+#[test]
 fn what_supports_itself_alone_is_in_no_set(rt: HostRuntime) -> Result<(), Fail> {
     let rows = [
         (
@@ -191,8 +267,18 @@ fn forms_that_are_not_built_are_refused_by_line(rt: HostRuntime) -> Result<(), F
             b"a.\nb :- a,\n  p(X).\n-c.".as_slice(),
             "3 |alpha: line 2: not built yet\n|0",
         ),
-        (b"\n-a.".as_slice(), "3 |alpha: line 2: not built yet\n|0"),
-        (b"{a}.".as_slice(), "3 |alpha: line 1: not built yet\n|0"),
+        (
+            b"-a.\n-p(1).".as_slice(),
+            "3 |alpha: line 2: not built yet\n|0",
+        ),
+        (
+            b"{a; b}.\n{a} <= 1.".as_slice(),
+            "3 |alpha: line 2: not built yet\n|0",
+        ),
+        (
+            b"{a : p(X)}.".as_slice(),
+            "3 |alpha: line 1: not built yet\n|0",
+        ),
         (
             b"a :- 1 < 2.".as_slice(),
             "3 |alpha: line 1: not built yet\n|0",

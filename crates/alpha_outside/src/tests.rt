@@ -4,6 +4,7 @@ use crate::{
     TermId, Trace, TraceStop,
 };
 use std::alloc::Global;
+use std::fs::File;
 use std::test::Fail;
 
 fn numbers(alloc: Global, items: &[u64]) -> Result<List<u64>, Fail> {
@@ -93,6 +94,29 @@ fn a_missing_file_is_a_fault(rt: HostRuntime) -> Result<(), Fail> {
         ", other"
     })?;
     if answers.as_str() == "failed, failed" {
+        return Ok(());
+    }
+    Err(Fail::from(ReadStop::TooLong))
+}
+
+// Whether the answer is these bytes.
+fn is_read(answer: Result<Vec<u8>, ReadStop>, want: &[u8]) -> bool {
+    match answer {
+        Ok(bytes) => bytes.as_slice() == want,
+        Err(_) => false,
+    }
+}
+
+#[test]
+fn a_file_holds_what_was_written_to_it(rt: HostRuntime) -> Result<(), Fail> {
+    let alloc = rt.alloc();
+    let piece = [b'x'; 5000];
+    let mut sink = StdSink::new(File::create(&rt, "written")?);
+    assert_eq!(rt; sink.write(piece.as_slice()), Ok(()));
+    let mut shelf = DirShelf::new(rt);
+    let whole = is_read(shelf.read(alloc, b"written", 5000), piece.as_slice());
+    let too_long = matches!(shelf.read(alloc, b"written", 4999), Err(ReadStop::TooLong));
+    if whole && too_long {
         return Ok(());
     }
     Err(Fail::from(ReadStop::TooLong))

@@ -1,5 +1,5 @@
 -- What the atoms of a pool stand for, and that different ids stand for different atoms.
-use Rattle.std.proofs.Common.{◌≡◌, ℕ, ◌<◌, Bool, false, List, [], ◌∷◌, ◌++◌, length, map, get_or, append_assoc, slice_get, Some, refl, sym, ap, subst, ◌∙◌, arith}
+use Rattle.std.proofs.Common.{◌≡◌, ℕ, ◌<◌, Bool, false, List, [], ◌++◌, length, map, append_assoc, slice_get, Some, refl, sym, ap, subst, ◌∙◌, arith}
 use Rattle.std.specs.Prelude.{All}
 use Rattle.std.proofs.lemmas.Option.{get_or_from_slice_get, same_Some}
 use Rattle.alpha_outside.specs.declared.node.Node.{Node}
@@ -7,13 +7,11 @@ use Rattle.alpha_outside.specs.declared.pred.Pred.{Pred}
 use Rattle.alpha_outside.specs.declared.pred.Pred.TheVariants as pred
 use Rattle.asp_meaning.specs.Atoms.{Atom}
 use Rattle.asp_meaning.specs.declared.value.Value.{Value}
-use Rattle.term_pool.specs.Nodes.{part, value_at, values, IsPool}
+use Rattle.term_pool.specs.Nodes.{value_at, values, IsPool}
 use Rattle.asp_meaning.specs.Lines.{atom_text, call_text, sign_text, value_text}
 use Rattle.term_pool.proofs.PlaceLemmas.{map-map}
 use Rattle.term_pool.proofs.PoolLemmas.{length-values}
-use Rattle.term_pool.proofs.OnceLemmas.{same_part, values_once}
-use Rattle.term_pool.specs.Interning.{NoneTwice}
-use Rattle.std.proofs.lemmas.List.Elements.{All-head, All-tail}
+use Rattle.term_pool.proofs.OnceLemmas.{same_parts, values_once}
 use Rattle.atom_pool.specs.declared.atom.AtomNode.{AtomNode}
 use Rattle.atom_pool.specs.declared.atom.AtomNode.TheVariants.{Named, Body}
 use Rattle.atom_pool.specs.Pools.{Pool, IsAtomPool, arity_of}
@@ -46,23 +44,6 @@ at_other terms pool id k args p there is other = at_pred terms pool id k args p 
 pub at_user : (terms : List Node) (pool : Pool) (id : ℕ) (u : IsUserAtom pool id) → atom_at terms pool id ≡ record { negated = u.negated; name = u.name; args = map (value_at terms) u.args }
 at_user terms pool id u = at_pred terms pool id u.pred_id u.args (pred.User u.negated u.name u.arity) u.node u.user
 
-heads : (d x y : Value) (xs ys : List Value) → x ∷ xs ≡ y ∷ ys → x ≡ y
-heads d x y xs ys e = ap (λ l. get_or l 0 d) e
-
-abbrev rest_of : List Value → List Value
-rest_of [] = []
-rest_of (v ∷ vs) = vs
-
--- where no value stands twice, the same values stand at the same places
-same_args : (vs : List Value) → NoneTwice vs → (xs ys : List ℕ) → All (λ a. a < length vs) xs → All (λ a. a < length vs) ys → map (part vs) xs ≡ map (part vs) ys → xs ≡ ys
-same_args vs once [] [] hx hy e = refl
-same_args vs once [] (b ∷ ys) hx hy e = absurd (omega (arith, ap (λ (l : List Value). length l) e))
-same_args vs once (a ∷ xs) [] hx hy e = absurd (omega (arith, ap (λ (l : List Value). length l) e))
-same_args vs once (a ∷ xs) (b ∷ ys) hx hy e =
-    let first : a ≡ b = same_part vs once a b (All-head (λ k. k < length vs) a xs hx) (All-head (λ k. k < length vs) b ys hy) (heads (part vs a) (part vs a) (part vs b) (map (part vs) xs) (map (part vs) ys) e) in
-    let rest : xs ≡ ys = same_args vs once xs ys (All-tail (λ k. k < length vs) a xs hx) (All-tail (λ k. k < length vs) b ys hy) (ap rest_of e) in
-    λ i. first i ∷ rest i
-
 -- different ids stand for different atoms
 pub same_atom : (terms : List Node) (pool : Pool) (a b : ℕ) → IsPool terms → IsAtomPool pool → IsBeside pool (length terms) → IsUserAtom pool a → IsUserAtom pool b
     → atom_at terms pool a ≡ atom_at terms pool b → a ≡ b
@@ -70,7 +51,7 @@ same_atom terms pool a b t p beside u v e =
     let is : record { negated = u.negated; name = u.name; args = map (value_at terms) u.args } ≡ record { negated = v.negated; name = v.name; args = map (value_at terms) v.args } =
     sym (at_user terms pool a u) ∙ e ∙ at_user terms pool b v in
     let low : (args : List ℕ) → All (λ k. k < length terms) args → All (λ k. k < length (values terms)) args = λ args h. subst (λ n. All (λ k. k < n) args) (sym (length-values terms)) h in
-    let args : u.args ≡ v.args = same_args (values terms) (values_once terms t) u.args v.args (low u.args (beside a (Named u.pred_id u.args) u.node)) (low v.args (beside b (Named v.pred_id v.args) v.node)) (ap (λ (x : Atom). x.args) is) in
+    let args : u.args ≡ v.args = same_parts (values terms) (values_once terms t) u.args v.args (low u.args (beside a (Named u.pred_id u.args) u.node)) (low v.args (beside b (Named v.pred_id v.args) v.node)) (ap (λ (x : Atom). x.args) is) in
     let left = p.fit a (Named u.pred_id u.args) u.node in
     let right = p.fit b (Named v.pred_id v.args) v.node in
     let left_arity : u.arity ≡ length u.args = ap arity_of (same_Some (pred.User u.negated u.name u.arity) left.0 (sym u.user ∙ left.1)) ∙ left.2 in

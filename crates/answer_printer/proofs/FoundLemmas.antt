@@ -2,11 +2,12 @@
 use Rattle.std.proofs.Common.{◌≡◌, refl, sym, ap, subst, ◌∙◌, ℕ, suc, ℤ, ◌+◌, ◌<◌, ◌≤◌, Bool, true, false, cond, ◌==◌, Option, Some, None, List, [], ◌∷◌, ◌++◌, length, take, drop, arith, append_assoc, length-append, take-append-drop}
 use Rattle.std.specs.Prelude.{codes}
 use Rattle.std.specs.Str.{bytes_eq}
-use Rattle.std.specs.List.{list_all, take_while, prefix_len}
+use Rattle.std.specs.List.{list_all, take_while}
 use Rattle.std.proofs.lemmas.Bool.{and_parts, and_from, cond-true, cond-false, cond_both, false_from_ne_true, eqb-true, ne_eqb}
 use Rattle.std.proofs.lemmas.Slice.Eq.{bytes_eq-Decides}
-use Rattle.std.proofs.lemmas.List.{length-take-le, take_at}
-use Rattle.std.proofs.lemmas.List.Sums.{take_while-cons, prefix_len-le-length}
+use Rattle.std.proofs.lemmas.List.{take_at}
+use Rattle.std.proofs.lemmas.List.Sums.{take_while-cons}
+use Rattle.lists.proofs.Places.{run_within, run_split}
 use Rattle.asp_syntax.specs.Bytes.{quote, is_lower, is_digit, is_word}
 use Rattle.asp_syntax.specs.WellFormed.{IsName, IsId, IsText}
 use Rattle.asp_lexer.specs.Lexemes.{closing_quote}
@@ -31,20 +32,6 @@ run_stops p [] (b ∷ bs) h e = take_while-cons p b bs ∙ ap (λ v. cond v (b �
 run_stops p (b ∷ v) rest h e =
     let parts = and_parts _ _ h in
     run_cons p b (v ++ rest) parts.0 ∙ ap (λ w. b ∷ w) (run_stops p v rest parts.1 e)
-
-run_taken : (p : ℕ → Bool) (bs : List ℕ) → take (length (take_while p bs)) bs ≡ take_while p bs
-run_taken p bs = ap (λ n. take n bs) (length-take-le (prefix_len p bs) bs (prefix_len-le-length p bs))
-
-run_within : (p : ℕ → Bool) (bs : List ℕ) → length (take_while p bs) ≤ length bs
-run_within p bs =
-    let e : length (take_while p bs) ≡ prefix_len p bs = length-take-le (prefix_len p bs) bs (prefix_len-le-length p bs) in
-    omega (arith, e, prefix_len-le-length p bs)
-
--- the run, and what is behind it
-run_split : (p : ℕ → Bool) (bs : List ℕ) → bs ≡ take_while p bs ++ drop (length (take_while p bs)) bs
-run_split p bs =
-    let n = length (take_while p bs) in
-    sym (take-append-drop n bs) ∙ ap (λ xs. xs ++ drop n bs) (run_taken p bs)
 
 -- ---- each word is found where it stands
 

@@ -13,7 +13,7 @@ use Rattle.asp_meaning.specs.Terms.{functional}
 use Rattle.asp_meaning.specs.Atoms.{Atom}
 use Rattle.asp_meaning.specs.Lines.{each_after, joined, call_text, value_text, sign_text, atom_text, line_of, IsSetLine}
 use Rattle.asp_laws.proofs.Lines.{a_set_has_one_line}
-use Rattle.term_pool.proofs.ValueLemmas.{text-Int, text-Symbol, text-Text, text-functional}
+use Rattle.asp_meaning.proofs.Layers.{text-Int, text-Symbol, text-Text, text-functional}
 use Rattle.answer_printer.specs.declared.fault.SetFault.{SetFault}
 use Rattle.answer_printer.specs.declared.fault.SetFault.TheVariants.{NotASet, OutOfMemory}
 use Rattle.answer_printer.specs.declared.words.Word.{Word}

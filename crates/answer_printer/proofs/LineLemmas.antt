@@ -15,7 +15,7 @@ use Rattle.term_pool.specs.Nodes.{IsPool}
 use Rattle.atom_pool.specs.Pools.{Pool, IsAtomPool}
 use Rattle.atom_pool.specs.Meanings.{atom_at, IsUserAtom, IsBeside}
 use Rattle.answer_printer.proofs.AtomLemmas.{same_atom}
-use Rattle.answer_printer.proofs.OrderLemmas.{atom_cmp_total, atom_cmp-same}
+use Rattle.asp_meaning.proofs.AtomOrder.{atom_cmp_total, atom_same}
 use Rattle.answer_printer.proofs.SortLemmas.{Ascends, permuted_members, permuted_once}
 
 -- what is neither above nor equal is below
@@ -24,7 +24,7 @@ below a b apart up = go (atom_cmp a b) refl
   where
     go : (o : Ordering) → atom_cmp a b ≡ o → atom_cmp a b ≡ Less
     go Less e = e
-    go Equal e = absurd (apart (atom_cmp-same a b e))
+    go Equal e = absurd (apart (atom_same a b e))
     go Greater e = absurd (true≢false (ap is_lt (sym (atom_cmp_total.antisymm b a ∙ ap ordering_reverse e)) ∙ up))
 
 -- the braces and the line feed round the atoms

@@ -1,11 +1,10 @@
 -- The text of pieces that are put onto a stack.
-use Rattle.std.proofs.Common.{◌≡◌, ℕ, ◌+◌, ◌*◌, ◌<◌, List, [], ◌∷◌, ◌++◌, map, refl, sym, ap, ◌∙◌, append_assoc, arith}
+use Rattle.std.proofs.Common.{◌≡◌, ℕ, ◌+◌, ◌*◌, ◌<◌, List, [], ◌∷◌, ◌++◌, map, refl, sym, ap, ◌∙◌, append_assoc, arith, append-nil}
 use Rattle.std.specs.Prelude.{codes, All}
 use Rattle.std.proofs.lemmas.List.Elements.{All-head, All-tail}
 use Rattle.alpha_outside.specs.declared.node.Node.{Node}
 use Rattle.asp_meaning.specs.Lines.{joined, each_after}
 use Rattle.term_pool.specs.Nodes.{value_at, value_size}
-use Rattle.term_pool.proofs.PlaceLemmas.{append-nil}
 use Rattle.answer_printer.specs.declared.terms.Piece.{Piece}
 use Rattle.answer_printer.specs.declared.terms.Piece.TheVariants.{Term, Next}
 use Rattle.answer_printer.specs.Pieces.{term_text, piece_text, rest_text, piece_weight, weight, IsWithin, AreWithin, nexts, pieces}

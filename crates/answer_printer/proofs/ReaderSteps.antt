@@ -44,15 +44,6 @@ name_may x (Named y) s e = absurd (cc)
 name_may x Whole s e = absurd (cc)
 name_may x End s e = absurd (cc)
 
-name_not : (x : List ℕ) (p : Phase) (s : State) → takes_name p ≡ false → on_name x p s ≡ None
-name_not x Start s e = refl
-name_not x First s e = absurd (cc)
-name_not x Due s e = absurd (cc)
-name_not x Signed s e = absurd (cc)
-name_not x (Named y) s e = refl
-name_not x Whole s e = refl
-name_not x End s e = refl
-
 value_may : (v : Value) (p : Phase) (calls : List Call) (s : State) → is_due p ≡ true → calls ≢ [] → on_value v p calls s ≡ Some (with_value v calls s)
 value_may v Due [] s e some = absurd (some refl)
 value_may v Due (c ∷ cs) s e some = refl
@@ -62,28 +53,6 @@ value_may v Signed calls s e some = absurd (cc)
 value_may v (Named y) calls s e some = absurd (cc)
 value_may v Whole calls s e some = absurd (cc)
 value_may v End calls s e some = absurd (cc)
-
-value_not : (v : Value) (p : Phase) (calls : List Call) (s : State) → is_due p ≡ false → on_value v p calls s ≡ None
-value_not v Due calls s e = absurd (cc)
-value_not v Start calls s e = refl
-value_not v First calls s e = refl
-value_not v Signed calls s e = refl
-value_not v (Named y) calls s e = refl
-value_not v Whole calls s e = refl
-value_not v End calls s e = refl
-
-value_not_outside : (v : Value) (p : Phase) (calls : List Call) (s : State) → calls ≡ [] → on_value v p calls s ≡ None
-value_not_outside v p [] s e = go p
-  where
-    go : (q : Phase) → on_value v q [] s ≡ None
-    go Due = refl
-    go Start = refl
-    go First = refl
-    go Signed = refl
-    go (Named y) = refl
-    go Whole = refl
-    go End = refl
-value_not_outside v p (c ∷ cs) s e = absurd (cc)
 
 minus_may : (p : Phase) (calls : List Call) (s : State) → takes_atom p ≡ true → calls ≡ [] → on_minus p calls s ≡ Some (signed s)
 minus_may p (c ∷ cs) s e none = absurd (cc)
@@ -123,24 +92,6 @@ comma_may Signed s e = absurd (cc)
 comma_may (Named y) s e = absurd (cc)
 comma_may End s e = absurd (cc)
 
-comma_not : (p : Phase) (s : State) → is_whole p ≡ false → on_comma p s ≡ None
-comma_not Whole s e = absurd (cc)
-comma_not Start s e = refl
-comma_not First s e = refl
-comma_not Due s e = refl
-comma_not Signed s e = refl
-comma_not (Named y) s e = refl
-comma_not End s e = refl
-
-open_not : (p : Phase) (s : State) → ((x : List ℕ) → p ≡ Named x → ⊥) → on_open p s ≡ None
-open_not Start s e = refl
-open_not First s e = refl
-open_not Due s e = refl
-open_not Signed s e = refl
-open_not (Named y) s e = absurd (e y refl)
-open_not Whole s e = refl
-open_not End s e = refl
-
 close_may : (p : Phase) (c : Call) (cs : List Call) (s : State) → is_whole p ≡ true → on_close p (c ∷ cs) s ≡ Some (ended c.name c.args cs s)
 close_may Whole c cs s e = refl
 close_may Start c cs s e = absurd (cc)
@@ -150,25 +101,6 @@ close_may Signed c cs s e = absurd (cc)
 close_may (Named y) c cs s e = absurd (cc)
 close_may End c cs s e = absurd (cc)
 
-close_not : (p : Phase) (calls : List Call) (s : State) → is_whole p ≡ false → on_close p calls s ≡ None
-close_not Whole calls s e = absurd (cc)
-close_not Start calls s e = refl
-close_not First calls s e = refl
-close_not Due calls s e = refl
-close_not Signed calls s e = refl
-close_not (Named y) calls s e = refl
-close_not End calls s e = refl
-
-close_not_outside : (p : Phase) (calls : List Call) (s : State) → calls ≡ [] → on_close p calls s ≡ None
-close_not_outside p (c ∷ cs) s e = absurd (cc)
-close_not_outside Whole [] s e = refl
-close_not_outside Start [] s e = refl
-close_not_outside First [] s e = refl
-close_not_outside Due [] s e = refl
-close_not_outside Signed [] s e = refl
-close_not_outside (Named y) [] s e = refl
-close_not_outside End [] s e = refl
-
 open_brace_may : (p : Phase) (s : State) → is_start p ≡ true → on_open_brace p s ≡ Some (at_phase s First)
 open_brace_may Start s e = refl
 open_brace_may First s e = absurd (cc)
@@ -177,15 +109,6 @@ open_brace_may Signed s e = absurd (cc)
 open_brace_may (Named y) s e = absurd (cc)
 open_brace_may Whole s e = absurd (cc)
 open_brace_may End s e = absurd (cc)
-
-open_brace_not : (p : Phase) (s : State) → is_start p ≡ false → on_open_brace p s ≡ None
-open_brace_not Start s e = absurd (cc)
-open_brace_not First s e = refl
-open_brace_not Due s e = refl
-open_brace_not Signed s e = refl
-open_brace_not (Named y) s e = refl
-open_brace_not Whole s e = refl
-open_brace_not End s e = refl
 
 end_may : (p : Phase) (calls : List Call) (s : State) → takes_end p ≡ true → calls ≡ [] → on_close_brace p calls s ≡ Some (at_phase s End)
 end_may p (c ∷ cs) s e none = absurd (cc)
@@ -225,9 +148,6 @@ Comes o r = (t : State) × (o ≡ Some t) × StandsIn r t
 pub name_comes : (r : Reader) (s : State) (x : List ℕ) → takes_name r.phase ≡ true → StandsIn r s → Comes (on_name x s.phase s) (with_calls r r.calls (Named x))
 name_comes r s x e h = (at_phase s (Named x), name_may x s.phase s (ap takes_name h.phase ∙ e), phase_set r s (Named x) h)
 
-pub name_refused : (r : Reader) (s : State) (x : List ℕ) → takes_name r.phase ≡ false → StandsIn r s → on_name x s.phase s ≡ None
-name_refused r s x e h = name_not x s.phase s (ap takes_name h.phase ∙ e)
-
 pub value_comes : (r r' : Reader) (s : State) (v : Value) → is_due r.phase ≡ true → r.calls ≢ [] → StandsIn r s → StandsIn r' (with_value v s.calls s) → Comes (on_value v s.phase s.calls s) r'
 value_comes r r' s v e some h k = (with_value v s.calls s, value_may v s.phase s.calls s (ap is_due h.phase ∙ e) (calls_some r s h some), k)
 
@@ -258,9 +178,6 @@ minus_refused_within r s some h = minus_not_within s.phase s.calls s (calls_some
 pub comma_comes : (r : Reader) (t : State) → is_whole r.phase ≡ true → StandsIn r t → Comes (on_comma t.phase t) (with_calls r r.calls Due)
 comma_comes r t e h = (at_phase t Due, comma_may t.phase t (ap is_whole h.phase ∙ e), phase_set r t Due h)
 
-pub comma_refused : (r : Reader) (t : State) → is_whole r.phase ≡ false → StandsIn r t → on_comma t.phase t ≡ None
-comma_refused r t e h = comma_not t.phase t (ap is_whole h.phase ∙ e)
-
 pub open_comes : (r : Reader) (s : State) (x : List ℕ) (calls : List OpenCall) (p : Phase) → r.phase ≡ Named x → p ≡ Due → calls ≡ r.calls ++ record { name = x; args = [] } ∷ [] → StandsIn r s
     → Comes (on_open s.phase s) (with_calls r calls p)
 open_comes r s x calls p e d more h = (
@@ -280,9 +197,6 @@ open_comes r s x calls p e d more h = (
     phase = sym d;
   },
 )
-
-pub open_refused : (r : Reader) (s : State) → ((x : List ℕ) → r.phase ≡ Named x → ⊥) → StandsIn r s → on_open s.phase s ≡ None
-open_refused r s other h = open_not s.phase s (λ x e. other x (sym h.phase ∙ e))
 
 -- what has ended doesn't rest on what stands last, or on the calls but those that it is told
 pub ended_alike : (f : List ℕ) (args : List Value) (cs calls : List Call) (s : State) (p : Phase)
@@ -318,17 +232,8 @@ close_comes r r' t c calls e split h k = (
   subst (StandsIn r') (ended_alike c.name (map (value_at r.terms) c.args) (calls_onto r.terms calls []) (calls_onto r.terms calls []) t t.phase) k,
 )
 
-pub close_refused : (r : Reader) (t : State) → is_whole r.phase ≡ false → StandsIn r t → on_close t.phase t.calls t ≡ None
-close_refused r t e h = close_not t.phase t.calls t (ap is_whole h.phase ∙ e)
-
-pub close_refused_outside : (r : Reader) (t : State) → r.calls ≡ [] → StandsIn r t → on_close t.phase t.calls t ≡ None
-close_refused_outside r t none h = close_not_outside t.phase t.calls t (calls_none r t h none)
-
 pub open_brace_comes : (r : Reader) (s : State) → is_start r.phase ≡ true → StandsIn r s → Comes (on_open_brace s.phase s) (with_calls r r.calls First)
 open_brace_comes r s e h = (at_phase s First, open_brace_may s.phase s (ap is_start h.phase ∙ e), phase_set r s First h)
-
-pub open_brace_refused : (r : Reader) (s : State) → is_start r.phase ≡ false → StandsIn r s → on_open_brace s.phase s ≡ None
-open_brace_refused r s e h = open_brace_not s.phase s (ap is_start h.phase ∙ e)
 
 pub end_comes : (r : Reader) (t : State) → takes_end r.phase ≡ true → r.calls ≡ [] → StandsIn r t → Comes (on_close_brace t.phase t.calls t) (with_calls r r.calls End)
 end_comes r t e none h = (at_phase t End, end_may t.phase t.calls t (ap takes_end h.phase ∙ e) (calls_none r t h none), phase_set r t End h)
@@ -344,28 +249,6 @@ end_refused_within r t some h = end_not_within t.phase t.calls t (calls_some r t
 pub settled_name : (r r' : Reader) (s : State) (x : List ℕ) (p : Phase) → r.phase ≡ Named x → StandsIn r s
     → StandsIn r' (ended x [] s.calls (at_phase s p)) → StandsIn r' (settled s)
 settled_name r r' s x p e h k = subst (StandsIn r') (ended_alike x [] s.calls s.calls s p ∙ ap (λ q. settled_in q s) (sym (h.phase ∙ e))) k
-
-pub settled_other : (r : Reader) (s : State) (p : Phase) → r.phase ≡ p → ((x : List ℕ) → p ≡ Named x → ⊥) → StandsIn r s → StandsIn (with_calls r r.calls p) (settled s)
-settled_other r s p e other h = subst (StandsIn (with_calls r r.calls p)) (sym (same s.phase (λ x f. other x (sym e ∙ sym h.phase ∙ f)))) (record {
-  pool = h.pool;
-  atom_pool = h.atom_pool;
-  beside = h.beside;
-  users = h.users;
-  below = h.below;
-  atoms = h.atoms;
-  negated = h.negated;
-  calls = h.calls;
-  phase = h.phase ∙ e;
-})
-  where
-    same : (q : Phase) → ((x : List ℕ) → q ≡ Named x → ⊥) → settled_in q s ≡ s
-    same Start f = refl
-    same First f = refl
-    same Due f = refl
-    same Signed f = refl
-    same (Named y) f = absurd (f y refl)
-    same Whole f = refl
-    same End f = refl
 
 -- within a call a name ends as an argument
 pub within_ends : (r : Reader) (s : State) (f : List ℕ) (args : List Value) → StandsIn r s → r.calls ≢ [] → with_value (functional f args) s.calls s ≡ ended f args s.calls s

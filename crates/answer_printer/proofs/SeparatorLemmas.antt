@@ -1,9 +1,7 @@
 -- Texts with separators between them, one text at a time.
-use Rattle.std.proofs.Common.{◌≡◌, ℕ, ◌+◌, ◌-◌, ◌<◌, List, [], ◌∷◌, ◌++◌, length, get_or, map, take, drop, refl, sym, ap, ◌∙◌, append_assoc, arith, false, ◌==◌, true≢false}
-use Rattle.std.specs.Prelude.{codes}
+use Rattle.std.proofs.Common.{◌≡◌, ℕ, ◌+◌, ◌-◌, ◌<◌, List, [], ◌∷◌, ◌++◌, length, get_or, map, take, drop, refl, sym, ap, ◌∙◌, append_assoc, arith, false, ◌==◌, true≢false, append-nil}
 use Rattle.std.proofs.lemmas.List.{map-append, take_more, take_all}
 use Rattle.asp_meaning.specs.Lines.{each_after, joined, call_text}
-use Rattle.term_pool.proofs.PlaceLemmas.{append-nil}
 
 each_after-push : (between : List ℕ) (xs : List (List ℕ)) (x : List ℕ) → each_after between (xs ++ x ∷ []) ≡ each_after between xs ++ (between ++ x)
 each_after-push between [] x = ap (λ l. between ++ l) (append-nil x)
@@ -39,16 +37,6 @@ first_and_more f between [] a start mid after lt at s t = absurd (omega (arith, 
 first_and_more f between (x ∷ xs) a start mid after lt at s t =
     t ∙ ap (λ l. mid ++ each_after between (map f l)) (take_all (length (x ∷ xs) - 1) xs (omega arith))
     ∙ ap (λ l. l ++ each_after between (map f xs)) (s ∙ ap (λ y. start ++ f y) at) ∙ append_assoc start (f x) (each_after between (map f xs))
-
--- all items in parentheses
-pub in_parentheses : (f : ℕ → List ℕ) (items : List ℕ) (before open_ inside after : List ℕ) → 0 < length items
-    → open_ ≡ before ++ codes "(" → inside ≡ open_ ++ joined (codes ",") (map f items) → after ≡ inside ++ codes ")" → after ≡ before ++ call_text [] (map f items)
-in_parentheses f [] before open_ inside after lt s t u = absurd (omega (arith, lt))
-in_parentheses f (x ∷ xs) before open_ inside after lt s t u =
-    let all : List ℕ = joined (codes ",") (map f (x ∷ xs)) in
-    u ∙ ap (λ l. l ++ codes ")") (t ∙ ap (λ l. l ++ all) s ∙ append_assoc before (codes "(") all)
-    ∙ append_assoc before (codes "(" ++ all) (codes ")")
-    ∙ ap (λ l. before ++ l) (append_assoc (codes "(") all (codes ")"))
 
 -- the name stands before what is in parentheses
 pub name_and_arguments : (f : List ℕ) (ts : List (List ℕ)) → f ++ call_text [] ts ≡ call_text f ts

@@ -1,8 +1,7 @@
 -- What a step of the tests leaves of what they make.
-use Rattle.std.proofs.Common.{◌≡◌, ℕ, ◌<◌, Bool, List, [], ◌∷◌, ◌++◌, length, take, slice_get, sym, ap, subst, ◌∙◌, arith}
+use Rattle.std.proofs.Common.{◌≡◌, ℕ, ◌<◌, Bool, List, [], ◌∷◌, ◌++◌, length, slice_get, sym, ap, subst, ◌∙◌, arith}
 use Rattle.std.specs.Prelude.{All}
-use Rattle.std.proofs.lemmas.List.Elements.{All-nil, All-push, All-take, All-weaker}
-use Rattle.std.proofs.lemmas.Option.{none-some}
+use Rattle.std.proofs.lemmas.List.Elements.{All-push, All-weaker}
 use Rattle.alpha_outside.specs.declared.node.Node.{Node}
 use Rattle.alpha_outside.specs.declared.pred.Pred.TheVariants as pred
 use Rattle.term_pool.specs.Interning.{IsInterned}
@@ -19,26 +18,12 @@ use Rattle.answer_printer.proofs.TurnLemmas.{in_below}
 use Rattle.answer_printer.proofs.ReadTermsLemmas.{interned_within}
 use Rattle.answer_printer.proofs.ReaderLemmas.{users_stay}
 
-pub nothing_made : AreMade [] (record { preds = []; atoms = [] }) []
-nothing_made = record {
-  within = All-nil (λ a. a < 0);
-  beside = λ id a e. absurd (none-some a e);
-  users = λ id lt. absurd (omega (arith, lt));
-}
-
 pub term_made : (old new : List Node) (atoms : Pool) (stack grown : List ℕ) (n : Node) (id : ℕ) → IsInterned old new n id → KeepsValues old new → grown ≡ stack ++ id ∷ []
     → AreMade old atoms stack → AreMade new atoms grown
 term_made old new atoms stack grown n id h kept e m = record {
   within = subst (All (λ a. a < length new)) (sym e) (All-push (λ a. a < length new) stack id
       (All-weaker (λ a. a < length old) (λ a. a < length new) (λ a lt. omega (arith, lt, kept.0)) stack m.within) (interned_within old new n id h));
   beside = beside_more atoms (length old) (length new) kept.0 m.beside;
-  users = m.users;
-}
-
-pub terms_taken : (terms : List Node) (atoms : Pool) (stack left : List ℕ) (n : ℕ) → left ≡ take n stack → AreMade terms atoms stack → AreMade terms atoms left
-terms_taken terms atoms stack left n e m = record {
-  within = subst (All (λ a. a < length terms)) (sym e) (All-take (λ a. a < length terms) n stack m.within);
-  beside = m.beside;
   users = m.users;
 }
 

@@ -1,9 +1,9 @@
 -- The turns in which a line is read.
-use Rattle.std.proofs.Common.{◌≡◌, ◌⊎◌, inl, inr, refl, sym, ap, subst, ◌∙◌, ℕ, zero, suc, ◌+◌, ◌<◌, ◌≤◌, true, false, List, [], ◌∷◌, ◌++◌, length, drop, map, Some, Ok, Err, arith, true≢false}
+use Rattle.std.proofs.Common.{◌≡◌, ◌⊎◌, inl, inr, refl, sym, ap, subst, ◌∙◌, ℕ, zero, suc, ◌+◌, ◌<◌, ◌≤◌, true, false, List, [], ◌∷◌, length, drop, map, Some, Ok, Err, arith, true≢false}
 use Rattle.std.specs.Prelude.{slice_index}
 use Rattle.std.proofs.lemmas.Option.{none-some, same_Some}
 use Rattle.lists.specs.Lists.{◌∈◌, HasNoRepeats}
-use Rattle.lists.proofs.ListLemmas.{∈-append_left, ∈-append_right, ∈-append_cases, ∈-map, ∈-map_from}
+use Rattle.lists.proofs.ListLemmas.{∈-append_left, ∈-append_right, ∈-append_cases, ∈-map, ∈-map_from, HasNoRepeats-last}
 use Rattle.alpha_outside.specs.declared.node.Node.{Node}
 use Rattle.asp_meaning.specs.Atoms.{Atom}
 use Rattle.asp_meaning.specs.Lines.{IsSetLine}
@@ -82,9 +82,6 @@ length-left zero xs le = omega arith
 length-left (suc at) [] le = absurd (omega (arith, le))
 length-left (suc at) (x ∷ xs) le = omega (arith, length-left at xs (omega (arith, le)))
 
-pub more_left : (at : ℕ) (xs : List ℕ) → at < length xs → 0 < length (drop at xs)
-more_left at xs lt = omega (arith, lt, length-left at xs (omega (arith, lt)))
-
 pub on_the_way : (line rest : List ℕ) (at n : ℕ) (r : Reader) (s : State) → rest ≡ drop at line → at < length line → LeadAlike start line s (drop at line) → Turned s rest r n → IsOnTheWay line (at + n) r
 on_the_way line rest at n r s is lt alike turned = (
   omega (arith, turned.1, ap length is, length-left at line (omega (arith, lt))),
@@ -98,9 +95,6 @@ on_the_way line rest at n r s is lt alike turned = (
   where
     left : drop n rest ≡ drop (at + n) line
     left = ap (drop n) is ∙ drop-twice at n line
-
-pub within_line : (line rest : List ℕ) (at n : ℕ) → rest ≡ drop at line → at < length line → n ≤ length rest → at + n ≤ length line
-within_line line rest at n is lt le = omega (arith, le, ap length is, length-left at line (omega (arith, lt)))
 
 pub refused_on_the_way : (line rest : List ℕ) (at : ℕ) (r : Reader) (s : State) (fault : SetFault) → rest ≡ drop at line → LeadAlike start line s (drop at line) → Turns s rest r (Err fault)
     → HasRead line (Err fault)
@@ -138,12 +132,6 @@ part_of_a_line line at r le way e atoms set =
 
 -- ---- all atoms of a pool
 
-pub below-suc : (n : ℕ) → below (n + 1) ≡ below n ++ n ∷ []
-below-suc n = ap below (one_more n)
-  where
-    one_more : (k : ℕ) → k + 1 ≡ suc k
-    one_more k = omega arith
-
 pub in_below : (n k : ℕ) → k ∈ below n → k < n
 in_below zero k among = absurd among
 in_below (suc n) k among = elim (∈-append_cases k (below n) (n ∷ []) among) [
@@ -164,19 +152,9 @@ all_below (suc n) k lt = elim (last_or k n (omega (arith, lt))) [
     last_or (suc a) zero h = absurd (omega (arith, h))
     last_or (suc a) (suc b) h = elim (last_or a b (omega (arith, h))) [ inl g ↦ inl (omega (arith, g)) | inr e ↦ inr (ap suc e) ]
 
-once-last : (xs : List ℕ) (x : ℕ) → HasNoRepeats xs → ¬ (x ∈ xs) → HasNoRepeats (xs ++ x ∷ [])
-once-last [] x once other = (λ none. none, tt)
-once-last (y ∷ ys) x once other = (
-  λ among. elim (∈-append_cases y ys (x ∷ []) among) [
-    | inl left ↦ once.0 left
-    | inr right ↦ elim right [ inl e ↦ other (inl (sym e)) | inr none ↦ none ]
-  ],
-  once-last ys x once.1 (λ among. other (inr among)),
-)
-
 pub below_once : (n : ℕ) → HasNoRepeats (below n)
 below_once zero = tt
-below_once (suc n) = once-last (below n) n (below_once n) (λ among. absurd (omega (arith, in_below n n among)))
+below_once (suc n) = HasNoRepeats-last (below n) n (below_once n) (λ among. absurd (omega (arith, in_below n n among)))
 
 -- the atoms that were read have the line of all atoms of the pool
 pub line_of_atoms : (terms : List Node) (pool : Pool) (atoms : List Atom) (line : List ℕ) → AreAtomsOf terms pool atoms

@@ -9,7 +9,8 @@ use Rattle.asp_meaning.specs.Lines.{value_text, call_text, joined}
 use Rattle.term_pool.specs.Nodes.{value_at, value_from, values, value_size, PartsBelow}
 use Rattle.term_pool.proofs.PlaceLemmas.{map-map}
 use Rattle.term_pool.proofs.PoolLemmas.{PartsBelow-more}
-use Rattle.term_pool.proofs.ValueLemmas.{size-Int, size-Symbol, size-Text, size-functional, text-Int, text-Symbol, text-Text, text-functional}
+use Rattle.asp_meaning.proofs.Layers.{text-Int, text-Symbol, text-Text, text-functional}
+use Rattle.term_pool.proofs.ValueLemmas.{size-Int, size-Symbol, size-Text, size-functional}
 use Rattle.answer_printer.specs.declared.terms.Piece.{Piece}
 use Rattle.answer_printer.specs.declared.terms.Piece.TheVariants.{Term, Next}
 use Rattle.answer_printer.specs.Pieces.{term_text, rest_text, weight, AreWithin, IsPrinted, IsCallWritten, IsNodeWritten}

@@ -1,7 +1,7 @@
 -- The first faulty token: what a loop over the tokens keeps, and that one answer always comes, and only one.
 use Rattle.asp_syntax.specs.declared.tree.Term.TheVariants as term
 use Rattle.std.proofs.Common.{◌≡◌, ℕ, zero, suc, ◌+◌, ◌<◌, ◌≤◌, arith, Bool, true, false, List, [], ◌∷◌, ◌++◌, length, take, get_or, ◌⊎◌, inl, inr, refl, sym, ap, subst, ◌∙◌, true≢false}
-use Rattle.std.specs.Prelude.{Option, Some, None, slice_get, is_some}
+use Rattle.std.specs.Prelude.{Option, Some, None, slice_get}
 use Rattle.std.proofs.lemmas.List.{take_more, take_all}
 use Rattle.std.proofs.lemmas.Option.{slice_get_cases, slice_get_within, get_or_from_slice_get}
 use Rattle.std.proofs.lemmas.Bool.{cases_lt, cases_eq, cases_order, cases_Bool}
@@ -34,11 +34,11 @@ use Rattle.asp_grammar.specs.Terminals.{Terminal, terminal_of, anonymous_after}
 use Rattle.asp_grammar.specs.Terminals as terminal
 use Rattle.asp_grammar.specs.Machine.{join, minuses, call_term, signed, atom_of, term_role, literal_next, or_else, term_part, arguments_next, term_begins, due_next, second_next, unguarded_next, step}
 use Rattle.asp_grammar.specs.Programs.{IsProgram, program_of, IsViable}
-use Rattle.asp_grammar.specs.Reading.{settle, advance_on, advance_of, signs_of, signs_in}
+use Rattle.asp_grammar.specs.Reading.{settle, advance_of, signs_of, signs_in}
 use Rattle.asp_syntax.specs.WellFormed.{largest}
 use Rattle.asp_grammar.specs.Nesting.{Levels, one_level, closed, levels_after, levels_through, outer_depth, depth, nesting}
 use Rattle.asp_grammar.specs.Faults.{what_of, Cause, unsupported, syntax, too_deep, number_too_large, IsFaulty, named, broken, deep, large, rank, IsCleanUpTo, IsFaultless, FirstFault, FaultAt, at_token, at_end, Parsed}
-use Rattle.asp_grammar.proofs.TermLemmas.{none_some, some_is, foreign, number, condition_refuses, term_refuses}
+use Rattle.asp_grammar.proofs.TermLemmas.{none_some, some_is, foreign, condition_refuses, term_refuses}
 use Rattle.asp_grammar.proofs.ProgramLemmas.{viable_between, viable_inside}
 use Rattle.asp_grammar.proofs.ReadingLemmas.{Stands, stands_first, stands_on, stands_broken, stands_whole, stands_only, stands_stopped}
 use Rattle.asp_grammar.proofs.SignLemmas.{Marks, marks_first, marks_on, pending, pending_in}
@@ -123,76 +123,6 @@ step_foreign (Ended h ls) = refl
 pub advance_foreign : (w : Progress) (k : ℕ) (t : Spanned) (x : What) → what_of t.token ≡ Some x → advance_of w k t ≡ None
 advance_foreign (at.Between done) k t x e = ap (settle done t.line) (ap (step Starting) (foreign_named t.token x k e) ∙ step_foreign Starting)
 advance_foreign (at.Inside done line s) k t x e = ap (settle done line) (ap (step s) (foreign_named t.token x k e) ∙ step_foreign s)
-
--- Whether a number goes on doesn't depend on its value.
-literal_number : (q : LiteralRole) (a : Atom) (n : ℕ) → literal_next q a (terminal.Number n) ≡ None
-literal_number AsHead a n = refl
-literal_number (AsChosen l es) a n = refl
-literal_number (InCondition w ls) a n = condition_refuses w (ls ++ literal.Positive a ∷ []) (number n)
-literal_number (DeniedInCondition w ls) a n = condition_refuses w (ls ++ literal.Negative a ∷ []) (number n)
-literal_number (AsDenied h ls) a n = refl
-literal_number (AsItem h ls) a n = refl
-
-part_number : (o : Option TermRole) (negated : Bool) (m : List ℕ) (xs : List Term) (n : ℕ) → term_part o negated m xs (terminal.Number n) ≡ None
-part_number None negated m xs n = refl
-part_number (Some b) negated m xs n = term_refuses [] (ForTerm b) (signed negated (call_term m xs)) (number n)
-
-args_number : (q : LiteralRole) (negated : Bool) (m : List ℕ) (xs : List Term) (n : ℕ) → arguments_next q negated m xs (terminal.Number n) ≡ None
-args_number q negated m xs n = or_nothing (literal_next q (atom_of negated m xs) (terminal.Number n)) (term_part (term_role q) negated m xs (terminal.Number n)) (literal_number q (atom_of negated m xs) n) (part_number (term_role q) negated m xs n)
-
-both_none : {a b : Option State} → a ≡ None → b ≡ None → is_some a ≡ is_some b
-both_none e f = ap is_some (e ∙ sym f)
-
-begins_numbers : (o : Option TermRole) (k n m : ℕ) → is_some (term_begins o k (terminal.Number n)) ≡ is_some (term_begins o k (terminal.Number m))
-begins_numbers None k n m = refl
-begins_numbers (Some b) k n m = refl
-
-due_numbers : (q : LiteralRole) (n m : ℕ) → is_some (due_next q (terminal.Number n)) ≡ is_some (due_next q (terminal.Number m))
-due_numbers AsHead n m = refl
-due_numbers (AsChosen l es) n m = refl
-due_numbers (InCondition w ls) n m = refl
-due_numbers (DeniedInCondition w ls) n m = refl
-due_numbers (AsDenied h ls) n m = refl
-due_numbers (AsItem h ls) n m = refl
-
-second_numbers : (denied : Bool) (h : Head) (ls : List Item) (op : CompareOp) (x : Term) (n m : ℕ) → is_some (second_next denied h ls op x (terminal.Number n)) ≡ is_some (second_next denied h ls op x (terminal.Number m))
-second_numbers true h ls op x n m = refl
-second_numbers false h ls op x n m = refl
-
-unguarded_numbers : (l : Option Guard) (o : Opening) (k : AggKind) (es : List Element) (n m : ℕ) → is_some (unguarded_next l o k es (terminal.Number n)) ≡ is_some (unguarded_next l o k es (terminal.Number m))
-unguarded_numbers None o k es n m = refl
-unguarded_numbers (Some x) o k es n m = refl
-
-step_numbers : (s : State) (n m : ℕ) → is_some (step s (terminal.Number n)) ≡ is_some (step s (terminal.Number m))
-step_numbers Starting n m = refl
-step_numbers (BodyOpened h) n m = refl
-step_numbers (BraceDue l) n m = refl
-step_numbers (BraceOpened l) n m = refl
-step_numbers (BraceClosed l es) n m = refl
-step_numbers (CompareRead denied h ls op x) n m = second_numbers denied h ls op x n m
-step_numbers (KindRead o k) n m = refl
-step_numbers (ElementsOpened o k) n m = refl
-step_numbers (ElementDue o k es) n m = refl
-step_numbers (FunctionClosed o k es) n m = unguarded_numbers o.left o k es n m
-step_numbers (ConditionOpened w) n m = refl
-step_numbers (LiteralDue q) n m = due_numbers q n m
-step_numbers (SignRead q) n m = begins_numbers (term_role q) 1 n m
-step_numbers (NameRead q negated x) n m = both_none (args_number q negated x [] n) (args_number q negated x [] m)
-step_numbers (ArgumentsOpened q negated x) n m = refl
-step_numbers (ArgumentsRead q negated x xs) n m = both_none (args_number q negated x xs n) (args_number q negated x xs m)
-step_numbers (OperandDue s m k K B) n q = refl
-step_numbers (SymbolRead s m k K B x) n q = both_none (term_refuses K B (join s (join m (minuses k (term.Symbol x)))) (number n)) (term_refuses K B (join s (join m (minuses k (term.Symbol x)))) (number q))
-step_numbers (CallOpened s m k K B x) n q = refl
-step_numbers (OperandRead s x K B) n m = both_none (term_refuses K B (join s x) (number n)) (term_refuses K B (join s x) (number m))
-step_numbers (Ended h ls) n m = refl
-
-settle_is : (done : List Statement) (line : ℕ) (o : Option State) → is_some (settle done line o) ≡ is_some o
-settle_is done line None = refl
-settle_is done line (Some s) = refl
-
-pub advance_numbers : (w : Progress) (k line n m : ℕ) → is_some (advance_on w k line (token.Number n)) ≡ is_some (advance_on w k line (token.Number m))
-advance_numbers (at.Between done) k line n m = settle_is done line (step Starting (terminal.Number n)) ∙ step_numbers Starting n m ∙ sym (settle_is done line (step Starting (terminal.Number m)))
-advance_numbers (at.Inside done first s) k line n m = settle_is done first (step s (terminal.Number n)) ∙ step_numbers s n m ∙ sym (settle_is done first (step s (terminal.Number m)))
 
 -- A sign is pending exactly where one is counted.
 pending_counted : (s : State) → pending s ≡ true → signs_of s ≡ 0 → ⊥

@@ -1,5 +1,5 @@
 -- From statements to programs: where a prefix leads, and that something completes it.
-use Rattle.std.proofs.Common.{◌≡◌, ℕ, Bool, true, false, List, [], ◌∷◌, ◌++◌, inl, inr, refl, sym, ap, subst, ◌∙◌, append_assoc, true≢false}
+use Rattle.std.proofs.Common.{◌≡◌, ℕ, Bool, true, false, List, [], ◌∷◌, ◌++◌, inl, inr, refl, sym, ap, subst, ◌∙◌, append_assoc, true≢false, append-nil}
 use Rattle.std.specs.Prelude.{Option, Some, None}
 use Rattle.asp_syntax.specs.declared.token.Token.{Token}
 use Rattle.asp_syntax.specs.declared.token.Token.TheVariants as token
@@ -506,13 +506,9 @@ reads_end front k done line h ls r = record {
   back = λ rest all d. r.back rest all (ended_back done line h ls (lined_from k rest) all d);
 }
 
-append_none : (ts : List Spanned) → ts ++ [] ≡ ts
-append_none [] = refl
-append_none (t ∷ ts) = ap (λ v. t ∷ v) (append_none ts)
-
 -- what stands between statements is a program, and the only one
 pub reads_whole : (front : List Spanned) (k : ℕ) (done : List Statement) → Reads front k (Between done) → IsProgram front (program_of done)
-reads_whole front k done r = subst (λ v. AreStatements (lined_from 0 v) done) (append_none front) (r.back [] done ([], p.none, sym (append_nothing done)))
+reads_whole front k done r = subst (λ v. AreStatements (lined_from 0 v) done) (append-nil front) (r.back [] done ([], p.none, sym (append_nothing done)))
   where
     append_nothing : (ss : List Statement) → ss ++ [] ≡ ss
     append_nothing [] = refl
@@ -522,7 +518,7 @@ nothing_left : {ss : List Statement} → AreStatements [] ss → ss ≡ []
 nothing_left p.none = refl
 
 pub reads_only : (front : List Spanned) (k : ℕ) (done : List Statement) (q : Program) → Reads front k (Between done) → IsProgram front q → q.statements ≡ done
-reads_only front k done q r h = go (r.on [] q.statements (subst (λ v. AreStatements (lined_from 0 v) q.statements) (sym (append_none front)) h))
+reads_only front k done q r h = go (r.on [] q.statements (subst (λ v. AreStatements (lined_from 0 v) q.statements) (sym (append-nil front)) h))
   where
     append_nothing : (ss : List Statement) → ss ++ [] ≡ ss
     append_nothing [] = refl
@@ -532,7 +528,7 @@ reads_only front k done q r h = go (r.on [] q.statements (subst (λ v. AreStatem
     go (others, st, e) = e ∙ ap (λ v. done ++ v) (nothing_left st) ∙ append_nothing done
 
 pub viable_between : (front : List Spanned) (k : ℕ) (done : List Statement) → Reads front k (Between done) → IsViable front
-viable_between front k done r = record { rest = []; program = program_of done; whole = subst (λ v. AreStatements (lined_from 0 v) done) (sym (append_none front)) (reads_whole front k done r) }
+viable_between front k done r = record { rest = []; program = program_of done; whole = subst (λ v. AreStatements (lined_from 0 v) done) (sym (append-nil front)) (reads_whole front k done r) }
 
 pub viable_inside : (front : List Spanned) (k : ℕ) (done : List Statement) (line : ℕ) (s : State) → Reads front k (Inside done line s) → IsViable front
 viable_inside front k done line s r =
@@ -562,7 +558,7 @@ breaks_inside front k t done line s o e r = record {
 
 -- The end inside a statement: a beginning, and no program.
 pub stops_inside : (front : List Spanned) (k : ℕ) (done : List Statement) (line : ℕ) (s : State) → is_ended s ≡ false → Reads front k (Inside done line s) → Stops front
-stops_inside front k done line s o r = record { before = viable_inside front k done line s r; whole = λ q h. go (r.on [] q.statements (subst (λ v. AreStatements (lined_from 0 v) q.statements) (sym (append_none front)) h)) }
+stops_inside front k done line s o r = record { before = viable_inside front k done line s r; whole = λ q h. go (r.on [] q.statements (subst (λ v. AreStatements (lined_from 0 v) q.statements) (sym (append-nil front)) h)) }
   where
     go2 : (ff rest : List Lined) (c : Clause) → ◌≡◌ {A = List Lined} [] (ff ++ rest) → Leads s (terminals ff) c → ⊥
     go2 [] rest c e l = leads_none s c o l

@@ -1,5 +1,5 @@
 -- The machine passes just the tokens with which a program begins, and reads just the programs.
-use Rattle.std.proofs.Common.{◌≡◌, ℕ, zero, suc, ◌+◌, ◌<◌, ◌≤◌, arith, Bool, true, false, List, [], ◌∷◌, ◌++◌, length, take, get_or, ◌⊎◌, inl, inr, refl, sym, ap, subst, ◌∙◌, append_assoc, true≢false}
+use Rattle.std.proofs.Common.{◌≡◌, ℕ, zero, suc, ◌+◌, ◌<◌, ◌≤◌, arith, Bool, true, false, List, [], ◌∷◌, ◌++◌, length, take, get_or, ◌⊎◌, inl, inr, refl, sym, ap, subst, ◌∙◌, append_assoc, true≢false, append-nil}
 use Rattle.std.specs.Prelude.{Option, Some, None, slice_get, ◌↔◌}
 use Rattle.std.proofs.lemmas.Option.{slice_get_cases, slice_get_within}
 use Rattle.asp_syntax.specs.declared.token.Spanned.{Spanned}
@@ -24,10 +24,6 @@ use Rattle.asp_grammar.proofs.ReadingLemmas.{Stands, stands_first, stands_on, st
 use Rattle.asp_grammar.proofs.SignLemmas.{Marks, marks_first, marks_on, pending, pending_in}
 use Rattle.asp_grammar.proofs.FaultLemmas.{viable_of, take_on, pending_signs}
 
-append_none : (ts : List Spanned) → ts ++ [] ≡ ts
-append_none [] = refl
-append_none (t ∷ ts) = ap (λ v. t ∷ v) (append_none ts)
-
 viable_front : (front rest : List Spanned) → IsViable (front ++ rest) → IsViable front
 viable_front front rest v =
     record { rest = rest ++ v.rest; program = v.program; whole = subst (λ w. IsProgram w v.program) (append_assoc front rest v.rest) v.whole }
@@ -40,7 +36,7 @@ passed_none k (t ∷ ts) = refl
 
 passed_stands : (front rest : List Spanned) (k : ℕ) (w w' : Progress) → Stands front k w → Marks front w → passed (Some w) k rest ≡ Some w' → (k' : ℕ) × Stands (front ++ rest) k' w' × Marks (front ++ rest) w'
 passed_stands front [] k w w' st m e =
-    let same = sym (append_none front) in
+    let same = sym (append-nil front) in
     (k, subst (λ v. Stands (front ++ []) k v) (some_is e) (subst (λ v. Stands v k w) same st), subst (λ v. Marks (front ++ []) v) (some_is e) (subst (λ v. Marks v w) same m))
 passed_stands front (t ∷ ts) k w w' st m e = go (advance_of w k t) refl e (λ v st' m' e'. passed_stands (front ++ t ∷ []) ts (anonymous_after k t.token) v w' st' m' e')
   where
@@ -100,7 +96,7 @@ read_program tokens p e = go (standing tokens) refl e
     go _ f e = absurd (none_some e)
 
 program_viable : (tokens : List Spanned) (p : Program) → IsProgram tokens p → IsViable tokens
-program_viable tokens p h = record { rest = []; program = p; whole = subst (λ v. IsProgram v p) (sym (append_none tokens)) h }
+program_viable tokens p h = record { rest = []; program = p; whole = subst (λ v. IsProgram v p) (sym (append-nil tokens)) h }
 
 pub program_read : (tokens : List Spanned) (p : Program) → IsProgram tokens p → read tokens ≡ Some p
 program_read tokens p h = go (standing tokens) refl
@@ -144,7 +140,8 @@ no_signs_in : (w : Progress) → pending_in w ≡ false → signs_in w ≡ 0
 no_signs_in (at.Between done) e = refl
 no_signs_in (at.Inside done line s) e = no_signs s e
 
-none_pending : (w : Progress) → signs_in w ≡ 0 → pending_in w ≡ false
+-- without signs that wait no operand is pending
+pub none_pending : (w : Progress) → signs_in w ≡ 0 → pending_in w ≡ false
 none_pending w e = go (pending_in w) refl
   where
     go : (p : Bool) → pending_in w ≡ p → pending_in w ≡ false

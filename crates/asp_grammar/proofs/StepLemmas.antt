@@ -32,7 +32,7 @@ use Rattle.asp_grammar.specs.declared.state.State.{State}
 use Rattle.asp_grammar.specs.declared.state.State.TheVariants.{Starting, BodyOpened, BraceDue, BraceOpened, BraceClosed, CompareRead, KindRead, ElementsOpened, ElementDue, FunctionClosed, ConditionOpened, LiteralDue, SignRead, NameRead, ArgumentsOpened, ArgumentsRead, OperandDue, SymbolRead, CallOpened, OperandRead, Ended}
 use Rattle.asp_grammar.specs.Machine.{clause_of, operand, guard_of, element_of, tuple_of, opening_of, with_aggregate, owner_next, second_next, compare_next, kind_next, element_due_next, elements_opened_next, unguarded_next, function_closed_next, head_next, brace_due_next, brace_opened_next, condition_opened_next, brace_closed_next, begin_next, due_next, body_next, start_next, step, fresh_term}
 use Rattle.asp_grammar.specs.Continuations.{Continuation, AfterItem, HeadRead, AfterBraces, ChoicesDue, AfterTuple, AfterOwner, NafsDue, AfterCondition, AfterColon, AfterAggregate, Unguarded, AfterFunction, ElementsDue, OpenedElements, AfterKind, AtFunction, SecondTerm, Compared, TupleRead, ElementBegins, OpenedBrace, AtBrace, InBody, AfterWholeTerm, AfterTerm, TermBegins, LiteralBegins, Begins, Due, Leads, Fresh}
-use Rattle.asp_grammar.proofs.TermLemmas.{none_some, moved, Goes, Exact, arrives, item_on, item_back, head_on, head_back, owner_on, owner_back, tuple_in, tuple_out, sum_in, sum_out, chain_on, chain_back, operand_on, operand_back, symbol_on, symbol_back, call_on, call_back, never}
+use Rattle.asp_grammar.proofs.TermLemmas.{none_some, moved, Goes, arrives, item_on, item_back, head_on, head_back, owner_on, owner_back, tuple_in, tuple_out, sum_in, sum_out, chain_on, chain_back, operand_on, operand_back, symbol_on, symbol_back, call_on, call_back, never}
 use Rattle.asp_grammar.proofs.LiteralSteps.{args_on, args_back, name_goes, name_back, open_goes, open_back, sign_on, sign_back, begin_on, begin_back}
 
 -- a function and what follows it
@@ -590,6 +590,3 @@ step_back (SymbolRead s m k K B n) t ts c st e l = symbol_back s m k K B n t ts 
 step_back (CallOpened s m k K B n) t ts c st e l = call_back s m k K B n t ts c st e l
 step_back (OperandRead s x K B) t ts c st e l = chain_back s x K B t ts c st e l
 step_back (Ended h' ls) t ts c st e l = absurd (none_some e)
-
-pub step_exact : (s : State) → Exact (Leads s) (step s)
-step_exact s = record { on = step_on s; back = step_back s }

@@ -72,9 +72,6 @@ item_back h ls terminal.Comma ts c s e l = let d = arrives ts c e l in inr (ts, 
 item_back h ls terminal.Dot ts c s e l = let d = arrives ts c e l in inl (ap (λ v. terminal.Dot ∷ v) d.0, sym d.1)
 item_back h ls _ ts c s e l = absurd (none_some e)
 
-pub item_exact : (h : Head) (ls : List Item) → Exact (AfterItem h ls) (item_next h ls)
-item_exact h ls = record { on = item_on h ls; back = item_back h ls }
-
 -- after a head
 pub head_on : (h : Head) (t : Terminal) (ts : List Terminal) (c : Clause) → HeadRead h (t ∷ ts) c → Goes (head_next h t) ts c
 head_on h t ts c (inl p) = moved (λ t ts. Goes (head_next h t) ts c) p.0 (Ended h [], refl, (refl, sym p.1))
@@ -393,9 +390,6 @@ chain_back s x K B terminal.Minus ts c st e l =
     let (w, a, u, (y, z, r, q, mp, ms, h)) = arrives ts c e l in (x, z, terminal.Minus ∷ ts, q, g.no_factor, g.summand g.minus (g.product u mp) ms, h)
 chain_back s x K B t ts c st e l = (x, join s x, t ∷ ts, t ∷ ts, g.no_factor, g.no_summand, term_back K B (join s x) t ts c st e l)
 
-pub chain_exact : (s : Pending) (x : Term) (K : List Frame) (B : Purpose) → Exact (Chain (AfterTerm K B) s x) (operand_next s x K B)
-chain_exact s x K B = record { on = chain_on s x K B; back = chain_back s x K B }
-
 -- k minus signs before a number, or before an operand that begins with none
 abbrev pub Under : ℕ → List Terminal → List Terminal → Term → Type 0
 Under k us r x = ((n : ℕ) × (us ≡ terminal.Number n ∷ r) × (x ≡ numbered k n)) ⊎ ((y : Term) × (begins_number us ≡ false) × IsUnary us r y × (x ≡ minuses k y))
@@ -511,9 +505,6 @@ module _ (s m : Pending) (k : ℕ) (K : List Frame) (B : Purpose) (c : Clause) w
   operand_back (terminal.Variable n) ts st e l = (minuses k (term.Variable n), ts, signed_operand k (terminal.Variable n ∷ ts) ts (term.Variable n) refl g.variable, arrives ts c e l)
   operand_back (terminal.Anonymous n) ts st e l = (minuses k (term.Anonymous n), ts, signed_operand k (terminal.Anonymous n ∷ ts) ts (term.Anonymous n) refl g.anonymous, arrives ts c e l)
   operand_back _ ts st e l = absurd (none_some e)
-
-pub operand_exact : (s m : Pending) (k : ℕ) (K : List Frame) (B : Purpose) → Exact (AtOperand s m k K B) (operand s m k K B)
-operand_exact s m k K B = record { on = λ t ts c. operand_on s m k K B c t ts; back = λ t ts c. operand_back s m k K B c t ts }
 
 -- after a name comes `(`, or what follows it without arguments
 abbrev pub NameGoes : (List Term → Continuation) → Terminal → Continuation

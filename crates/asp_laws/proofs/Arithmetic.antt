@@ -1,5 +1,5 @@
 -- Terms without a value.
-use Rattle.std.proofs.Common.{◌≡◌, refl, sym, ap, subst, ◌∙◌, ℕ, ℤ, pos, negsuc, List, ◌∷◌, Option, Some, None}
+use Rattle.std.proofs.Common.{◌≡◌, refl, sym, ap, ◌∙◌, ℕ, ℤ, pos, negsuc, List, ◌∷◌, Option, Some, None}
 use Rattle.alpha_outside.specs.declared.kinds.ArithOp.{ArithOp}
 use Rattle.alpha_outside.specs.declared.kinds.ArithOp.TheVariants.{Div}
 use Rattle.lists.proofs.ListLemmas.{Each-at}
@@ -12,10 +12,11 @@ use Rattle.asp_meaning.specs.declared.value.Value.{Value}
 use Rattle.asp_meaning.specs.declared.value.Value.TheVariants as value
 use Rattle.asp_meaning.specs.declared.value.Value.TheOpen.{Value-F}
 use Rattle.asp_meaning.specs.declared.value.Value.TheOpen as shape
-use Rattle.asp_meaning.specs.declared.value.Value.TheViews.{out-Value, roll-Value, roll-out-Value, out-roll-Value}
+use Rattle.asp_meaning.specs.declared.value.Value.TheViews.{out-Value, roll-Value, out-roll-Value}
 use Rattle.asp_meaning.specs.Terms.{Substitution, operation, eval, eval_step}
 use Rattle.asp_meaning.specs.Bodies.{weight}
 use Rattle.asp_meaning.specs.Programs.{HasValue, IsInstance}
+use Rattle.asp_meaning.proofs.Layers.{value_cases}
 use Rattle.asp_laws.proofs.Constraints.{demands_alone}
 use Rattle.asp_laws.specs.Laws.{ArithmeticWithoutAValueGivesNoInstance, AStatementWithoutInstancesSaysNothing, NoDivisionByZero, NoArithmeticOnSymbols, DivisionCutsTowardsZero}
 
@@ -60,17 +61,6 @@ a_statement_without_instances P r I none =
     (λ h. (alone.0 h).0, λ h. alone.1 (h, λ s i b. absurd (none s i)))
 
 -- ---- operations
-
--- what holds of each kind of value holds of each value
-pub value_cases : (Q : Value → Type 0) → ((n : ℤ) → Q (value.Int n)) → ((x : List ℕ) → Q (value.Symbol x)) → ((x : List ℕ) → Q (value.Text x))
-    → ((f : List ℕ) (x : Value) (xs : List Value) → Q (value.Fun f x xs)) → (v : Value) → Q v
-value_cases Q int symbol text fun v = subst Q (roll-out-Value v) (go (out-Value v))
-  where
-    go : (x : Value-F Value) → Q (roll-Value x)
-    go (shape.Int n) = subst Q (sym (value.rolls-Int n)) (int n)
-    go (shape.Symbol x) = subst Q (sym (value.rolls-Symbol x)) (symbol x)
-    go (shape.Text x) = subst Q (sym (value.rolls-Text x)) (text x)
-    go (shape.Fun f x xs) = subst Q (sym (value.rolls-Fun f x xs)) (fun f x xs)
 
 divided_by_zero : (o : Option Value) → operation Div o (Some (value.Int (pos 0))) ≡ None
 divided_by_zero None = refl

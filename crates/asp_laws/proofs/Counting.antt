@@ -2,6 +2,7 @@
 use Rattle.std.proofs.Common.{◌≡◌, inl, inr, refl, sym, ap, subst, ◌∙◌, ℤ, pos, ◌+ℤ◌, true, false, not, List, [], ◌∷◌, Some, codes}
 use Rattle.std.specs.declared.cmp.Ordering.TheVariants.{Less}
 use Rattle.std.specs.Ordering.{int_cmp}
+use Rattle.std.proofs.lemmas.Option.{same_Some}
 use Rattle.alpha_outside.specs.declared.kinds.ArithOp.TheVariants.{Add}
 use Rattle.lists.specs.Lists.{◌∈◌, HasNoRepeats, Each}
 use Rattle.lists.proofs.ListLemmas.{SameSet-refl, SameSet-sym}
@@ -11,7 +12,6 @@ use Rattle.asp_syntax.specs.declared.tree.Term.{Term}
 use Rattle.asp_syntax.specs.declared.tree.Term.TheVariants as term
 use Rattle.asp_meaning.specs.declared.value.Value.{Value}
 use Rattle.asp_meaning.specs.declared.value.Value.TheVariants as value
-use Rattle.asp_meaning.specs.declared.value.Value.TheOpen as layer
 use Rattle.asp_meaning.specs.Terms.{named, Substitution, all_of, operation, eval}
 use Rattle.asp_meaning.specs.Orders.{value_cmp, passes}
 use Rattle.asp_meaning.specs.Atoms.{Atom, Becomes, strong_negation}
@@ -22,22 +22,16 @@ use Rattle.asp_laws.specs.Examples.{n_of, number, start, step}
 use Rattle.asp_laws.specs.Laws.{CountingStops}
 use Rattle.asp_laws.proofs.Arithmetic.{eval-Int, eval-Arith, weight-Int}
 use Rattle.asp_laws.proofs.Weights.{eval-Variable, eval_one}
-use Rattle.asp_laws.proofs.Values.{cmp_roll}
-use Rattle.asp_laws.proofs.Foundations.{atom_from_parts, a_positive_program_has_at_most_one}
+use Rattle.asp_meaning.proofs.ValueOrder.{cmp-Int}
+use Rattle.asp_meaning.proofs.AtomOrder.{atom_from_parts}
+use Rattle.asp_laws.proofs.Foundations.{a_positive_program_has_at_most_one}
 use Rattle.asp_laws.proofs.Moves.{order_of_atoms}
-
--- the order of integers
-cmp-Int : (m n : ℤ) → value_cmp (value.Int m) (value.Int n) ≡ int_cmp m n
-cmp-Int m n = (λ i. value_cmp (sym (value.rolls-Int m) i) (sym (value.rolls-Int n) i)) ∙ cmp_roll (layer.Int m) (layer.Int n)
 
 abbrev x : Term
 x = term.Variable (codes "X")
 
 one_value : (u v : Value) → Some (u ∷ []) ≡ Some (v ∷ []) → u ≡ v
 one_value u v e = cc
-
-some_value : (u v : Value) → Some u ≡ Some v → u ≡ v
-some_value u v e = cc
 
 -- ---- what an instance of the second rule says
 
@@ -62,8 +56,8 @@ next_is s k b e c =
 is_below : (s : Substitution) (k : ℤ) (u v : Value) → s (named (codes "X")) ≡ value.Int k → eval s x ≡ Some u → eval s (term.Int (pos 3)) ≡ Some v
     → passes op.Less (value_cmp u v) ≡ true → passes op.Less (int_cmp k (pos 3)) ≡ true
 is_below s k u v e f g h =
-    let left : u ≡ value.Int k = some_value u (value.Int k) (sym f ∙ eval-Variable s (codes "X") ∙ ap (λ w. Some w) e) in
-    let right : v ≡ value.Int (pos 3) = some_value v (value.Int (pos 3)) (sym g ∙ eval-Int s (pos 3)) in
+    let left : u ≡ value.Int k = same_Some u (value.Int k) (sym f ∙ eval-Variable s (codes "X") ∙ ap (λ w. Some w) e) in
+    let right : v ≡ value.Int (pos 3) = same_Some v (value.Int (pos 3)) (sym g ∙ eval-Int s (pos 3)) in
     ap (passes op.Less) (sym (cmp-Int k (pos 3))) ∙ (λ i. passes op.Less (value_cmp (sym left i) (sym right i))) ∙ h
 
 -- ---- the answer set

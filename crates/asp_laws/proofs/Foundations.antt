@@ -1,5 +1,6 @@
 -- Each atom of an answer set is licensed, and no unfounded atom is in one.
-use Rattle.std.proofs.Common.{◌≡◌, inl, inr, sym, subst, ◌∙◌, ℕ, Bool, List, [], ◌∷◌, Some}
+use Rattle.std.proofs.Common.{◌≡◌, inl, inr, sym, subst, ◌∙◌, List, [], ◌∷◌}
+use Rattle.std.proofs.lemmas.Option.{same_Some}
 use Rattle.lists.specs.Lists.{◌∈◌, ◌⊆◌, Each, AtLeastOne}
 use Rattle.lists.proofs.ListLemmas.{Each-at, Each-map, AtLeastOne-at, AtLeastOne-map}
 use Rattle.asp_syntax.specs.declared.tree.Atom as syntax
@@ -10,7 +11,6 @@ use Rattle.asp_syntax.specs.declared.tree.Item.TheVariants as item
 use Rattle.asp_syntax.specs.declared.tree.Head.{Head}
 use Rattle.asp_syntax.specs.declared.tree.Head.TheVariants as head
 use Rattle.asp_syntax.specs.declared.tree.Statement.{Statement}
-use Rattle.asp_meaning.specs.declared.value.Value.{Value}
 use Rattle.asp_meaning.specs.Terms.{Variable, Substitution}
 use Rattle.asp_meaning.specs.Variables.{global_variables}
 use Rattle.asp_meaning.specs.Atoms.{Atom, Becomes}
@@ -18,19 +18,13 @@ use Rattle.asp_meaning.specs.Bodies.{LiteralHolds, ItemHolds}
 use Rattle.asp_meaning.specs.Programs.{Offers, Rests, ItemRests, HeadGives, HeadIsMet, LicensesFrom, Licenses, IsFoundedList, IsAnswerSet}
 use Rattle.asp_laws.specs.Words.{HasAtomIn, IsUnfounded, IsPositiveItem, IsPlainHead, IsPositive}
 use Rattle.asp_laws.specs.Laws.{EachAtomIsLicensed, UnfoundedSetsAreOut, SelfSupportIsNoFoundation, APositiveProgramHasAtMostOne}
+use Rattle.asp_meaning.proofs.AtomOrder.{atom_from_parts}
 
 -- ---- an atom becomes one atom
 
-pub atom_from_parts : (a b : Atom) → a.negated ≡ b.negated → a.name ≡ b.name → a.args ≡ b.args → a ≡ b
-atom_from_parts a b p q r =
-    let of : Bool → List ℕ → List Value → Atom = λ n x vs. record { negated = n; name = x; args = vs } in λ i. of (p i) (q i) (r i)
-
-same_values : (xs ys : List Value) → Some xs ≡ Some ys → xs ≡ ys
-same_values xs ys e = cc
-
 pub Becomes-one : (s : Substitution) (p : syntax.Atom) (a b : Atom) → Becomes s p a → Becomes s p b → a ≡ b
 Becomes-one s p a b f g =
-    atom_from_parts a b (f.0 ∙ sym g.0) (f.1 ∙ sym g.1) (same_values a.args b.args (sym f.2 ∙ g.2))
+    atom_from_parts a b (f.0 ∙ sym g.0) (f.1 ∙ sym g.1) (same_Some a.args b.args (sym f.2 ∙ g.2))
 
 -- ---- what holds in a set rests on it
 

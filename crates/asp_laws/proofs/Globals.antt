@@ -2,7 +2,7 @@
 use Rattle.std.proofs.Common.{◌≡◌, inl, inr, refl, sym, ap, subst, ◌∙◌, ℤ, pos, true, false, List, [], ◌∷◌, ◌++◌, map, Option, Some, None}
 use Rattle.alpha_outside.specs.declared.kinds.ArithOp.TheVariants.{Sub}
 use Rattle.lists.specs.Lists.{◌∈◌, Each, concat}
-use Rattle.lists.proofs.ListLemmas.{Each-at, Each-from, Each-map, AtLeastOne-map, ∈-append_left, ∈-append_right, ∈-map}
+use Rattle.lists.proofs.ListLemmas.{Each-at, Each-from, Each-map, AtLeastOne-map, ∈-append_left, ∈-append_right, ∈-map, ∈-concat}
 use Rattle.asp_syntax.specs.declared.tree.Atom as syntax
 use Rattle.asp_syntax.specs.declared.tree.Aggregate.{Aggregate}
 use Rattle.asp_syntax.specs.declared.tree.Element.{Element}
@@ -67,46 +67,41 @@ module _ (s t : Substitution) where
       ∙ sym (fold-roll-Term (Option Value) (eval_step s) part)))
 
 -- each of these terms has the same value
-abbrev AreSame : Substitution → Substitution → List Term → Type 0
+abbrev pub AreSame : Substitution → Substitution → List Term → Type 0
 AreSame s t ts = (u : Term) → u ∈ ts → eval t u ≡ eval s u
 
-turn : (s t : Substitution) (ts : List Term) → AreSame s t ts → AreSame t s ts
+pub turn : (s t : Substitution) (ts : List Term) → AreSame s t ts → AreSame t s ts
 turn s t ts h u k = sym (h u k)
 
-all_same : (s t : Substitution) (ts : List Term) → AreSame s t ts → eval_all t ts ≡ eval_all s ts
+pub all_same : (s t : Substitution) (ts : List Term) → AreSame s t ts → eval_all t ts ≡ eval_all s ts
 all_same s t ts h = ap all_of (values ts h)
   where
     values : (us : List Term) → AreSame s t us → map (eval t) us ≡ map (eval s) us
     values [] h = refl
     values (u ∷ us) h = let first = h u (inl refl) in let rest = values us (λ w k. h w (inr k)) in λ i. first i ∷ rest i
 
-in_concat : {A : Type 0} (x : A) (xs : List A) (xss : List (List A)) → x ∈ xs → xs ∈ xss → x ∈ concat xss
-in_concat x xs [] k among = absurd among
-in_concat x xs (ys ∷ xss) k (inl e) = ∈-append_left x ys (concat xss) (subst (λ zs. x ∈ zs) e k)
-in_concat x xs (ys ∷ xss) k (inr among) = ∈-append_right x ys (concat xss) (in_concat x xs xss k among)
-
 globals_same : (r : Statement) (s t : Substitution) → Extends (global_variables r) s t → AreSame s t (global_terms r)
 globals_same r s t h u among = eval_same s t u (λ v k.
-    Each-at (λ v. t v ≡ s v) (global_variables r) v h (in_concat v (variables u) (map variables (global_terms r)) k (∈-map variables u (global_terms r) among)))
+    Each-at (λ v. t v ≡ s v) (global_variables r) v h (∈-concat v (variables u) (map variables (global_terms r)) k (∈-map variables u (global_terms r) among)))
 
 head_same : (r : Statement) (s t : Substitution) → AreSame s t (global_terms r) → AreSame s t (head_terms r.head)
 head_same r s t h u k = h u (∈-append_left u (head_terms r.head) (concat (map item_terms r.body)) k)
 
 item_same : (r : Statement) (s t : Substitution) → AreSame s t (global_terms r) → (i : Item) → i ∈ r.body → AreSame s t (item_terms i)
 item_same r s t h i among u k =
-    h u (∈-append_right u (head_terms r.head) (concat (map item_terms r.body)) (in_concat u (item_terms i) (map item_terms r.body) k (∈-map item_terms i r.body among)))
+    h u (∈-append_right u (head_terms r.head) (concat (map item_terms r.body)) (∈-concat u (item_terms i) (map item_terms r.body) k (∈-map item_terms i r.body among)))
 
 -- ---- bodies
 
-becomes_same : (s t : Substitution) (p : syntax.Atom) (a : Atom) → AreSame s t p.args → Becomes s p a → Becomes t p a
+pub becomes_same : (s t : Substitution) (p : syntax.Atom) (a : Atom) → AreSame s t p.args → Becomes s p a → Becomes t p a
 becomes_same s t p a h b = (b.0, b.1, all_same s t p.args h ∙ b.2)
 
-literal_same : (s t : Substitution) (I : List Atom) (l : Literal) → AreSame s t (literal_terms l) → LiteralHolds s I l → LiteralHolds t I l
+pub literal_same : (s t : Substitution) (I : List Atom) (l : Literal) → AreSame s t (literal_terms l) → LiteralHolds s I l → LiteralHolds t I l
 literal_same s t I (literal.Positive p) h k = (k.0, becomes_same s t p k.0 h k.1, k.2)
 literal_same s t I (literal.Negative p) h k = (k.0, becomes_same s t p k.0 h k.1, k.2)
 literal_same s t I (literal.Compare op l r) h k = (k.0, k.1, h l (inl refl) ∙ k.2, h r (inr (inl refl)) ∙ k.3, k.4)
 
-rests_same : (s t : Substitution) (earlier : List Atom) (l : Literal) → AreSame s t (literal_terms l) → Rests s earlier l → Rests t earlier l
+pub rests_same : (s t : Substitution) (earlier : List Atom) (l : Literal) → AreSame s t (literal_terms l) → Rests s earlier l → Rests t earlier l
 rests_same s t earlier (literal.Positive p) h k = (k.0, becomes_same s t p k.0 h k.1, k.2)
 rests_same s t earlier (literal.Negative p) h k = tt
 rests_same s t earlier (literal.Compare op l r) h k = tt
@@ -134,15 +129,15 @@ extent_same globals s t I h g tuples k = record {
   all_given = λ x j. k.all_given x (AtLeastOne-map (Gives globals t I x) (Gives globals s I x) (gives_same globals t s I (extends_turn globals s t h) x) g.elements j);
 }
 
-left_same : (s t : Substitution) (n : ℤ) (o : Option Guard) → AreSame s t (guard_terms o) → LeftHolds s n o → LeftHolds t n o
+pub left_same : (s t : Substitution) (n : ℤ) (o : Option Guard) → AreSame s t (guard_terms o) → LeftHolds s n o → LeftHolds t n o
 left_same s t n None h k = tt
 left_same s t n (Some g) h k = (k.0, h g.term (inl refl) ∙ k.1, k.2)
 
-right_same : (s t : Substitution) (n : ℤ) (o : Option Guard) → AreSame s t (guard_terms o) → RightHolds s n o → RightHolds t n o
+pub right_same : (s t : Substitution) (n : ℤ) (o : Option Guard) → AreSame s t (guard_terms o) → RightHolds s n o → RightHolds t n o
 right_same s t n None h k = tt
 right_same s t n (Some g) h k = (k.0, h g.term (inl refl) ∙ k.1, k.2)
 
-guards_same : (s t : Substitution) (n : ℤ) (g : Aggregate) → AreSame s t (guard_terms g.left ++ guard_terms g.right) → GuardsHold s n g → GuardsHold t n g
+pub guards_same : (s t : Substitution) (n : ℤ) (g : Aggregate) → AreSame s t (guard_terms g.left ++ guard_terms g.right) → GuardsHold s n g → GuardsHold t n g
 guards_same s t n g h k = (
   left_same s t n g.left (λ u j. h u (∈-append_left u (guard_terms g.left) (guard_terms g.right) j)) k.0,
   right_same s t n g.right (λ u j. h u (∈-append_right u (guard_terms g.left) (guard_terms g.right) j)) k.1,

@@ -2,7 +2,6 @@ pub mod Moves
 pub mod Foundations
 pub mod Small
 pub mod Arithmetic
-pub mod Values
 pub mod Lines
 pub mod Stable
 pub mod Constraints
@@ -18,3 +17,4 @@ pub mod Numerals
 pub mod Endings
 pub mod Readable
 pub mod WholeLines
+pub mod MoreLaws

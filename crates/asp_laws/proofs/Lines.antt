@@ -1,21 +1,18 @@
--- The order of atoms, and the line of a set.
-use Rattle.std.proofs.Common.{◌≡◌, ◌⊎◌, inl, inr, refl, sym, ap, subst, ◌∙◌, Bool, true, false, not, List, [], ◌∷◌, length}
+-- Comparisons of values, and the line of a set.
+use Rattle.std.proofs.Common.{◌≡◌, ◌⊎◌, inl, inr, refl, sym, ap, subst, ◌∙◌, true, not, List, [], ◌∷◌}
 use Rattle.std.specs.declared.cmp.Ordering.{Ordering}
 use Rattle.std.specs.declared.cmp.Ordering.TheVariants.{Less, Equal, Greater}
-use Rattle.std.specs.Ordering.{nat_cmp, ordering_then, ordering_reverse}
-use Rattle.std.specs.Cmp.{IsTotalOrder, then_total, on_total, tied_itself}
-use Rattle.std.specs.Cmp.Lexicographic.{lists_total}
-use Rattle.std.proofs.lemmas.Cmp.{nat_cmp_total, nat_list_cmp_total}
+use Rattle.std.specs.Ordering.{ordering_reverse}
+use Rattle.std.specs.Cmp.{tied_itself}
 use Rattle.lists.specs.Lists.{◌∈◌, ◌⊆◌, Each}
 use Rattle.lists.proofs.ListLemmas.{Each-at, Each-from}
 use Rattle.asp_syntax.specs.declared.tree.CompareOp.TheVariants as op
-use Rattle.asp_meaning.specs.declared.value.Value.{Value}
-use Rattle.asp_meaning.specs.Orders.{bytes_cmp, value_cmp, values_cmp, passes}
+use Rattle.asp_meaning.specs.Orders.{value_cmp, passes}
 use Rattle.asp_meaning.specs.Atoms.{Atom}
-use Rattle.asp_meaning.specs.Lines.{sign_cmp, atom_cmp, IsInOrder, line_of}
-use Rattle.asp_laws.specs.Laws.{EqualIsTheSame, ComparisonsAreOpposites, AtomsThatStandLevelAreTheSame, ASetHasALine, ASetHasOneLine}
-use Rattle.asp_laws.proofs.Values.{less_equal, greater_equal, greater_less, equal_less, then_first, then_second, bytes_same, value_same, value_itself, value_cmp_total}
-use Rattle.asp_laws.proofs.Foundations.{atom_from_parts}
+use Rattle.asp_meaning.specs.Lines.{atom_cmp, IsInOrder, line_of}
+use Rattle.asp_laws.specs.Laws.{EqualIsTheSame, ComparisonsAreOpposites, ASetHasALine, ASetHasOneLine}
+use Rattle.asp_meaning.proofs.ValueOrder.{greater_less, equal_less, value_same, value_itself}
+use Rattle.asp_meaning.proofs.AtomOrder.{atom_cmp_total, atom_same}
 
 -- ---- comparisons
 
@@ -35,68 +32,11 @@ comparisons_are_opposites x y = go (value_cmp x y)
     go Equal = (refl, refl, refl)
     go Greater = (refl, refl, refl)
 
--- ---- atoms
-
-sign_turns : (p q : Bool) → sign_cmp p q ≡ ordering_reverse (sign_cmp q p)
-sign_turns false false = refl
-sign_turns false true = refl
-sign_turns true false = refl
-sign_turns true true = refl
-
-sign_same : (p q : Bool) → sign_cmp p q ≡ Equal → p ≡ q
-sign_same false false e = refl
-sign_same false true e = less_equal e
-sign_same true false e = greater_equal e
-sign_same true true e = refl
-
-sign_passes : (p q r : Bool) → sign_cmp p q ≡ Less → sign_cmp q r ≡ Less → sign_cmp p r ≡ Less
-sign_passes false false r e f = equal_less e
-sign_passes false true false e f = greater_less f
-sign_passes false true true e f = equal_less f
-sign_passes true false r e f = greater_less e
-sign_passes true true r e f = equal_less e
-
-sign_total : IsTotalOrder sign_cmp
-sign_total = record { antisymm = sign_turns; trans = sign_passes; congr = λ p q r e. ap (λ k. sign_cmp k r) (sign_same p q e) }
-
-pub atom_cmp_total : IsTotalOrder atom_cmp
-atom_cmp_total =
-    then_total (on_total (λ (a : Atom). a.name) nat_list_cmp_total)
-    (then_total (on_total (λ (a : Atom). length a.args) nat_cmp_total)
-    (then_total (on_total (λ (a : Atom). a.args) (lists_total value_cmp_total)) (on_total (λ (a : Atom). a.negated) sign_total)))
-
-pub values_same : (xs ys : List Value) → values_cmp xs ys ≡ Equal → xs ≡ ys
-values_same [] [] e = refl
-values_same [] (y ∷ ys) e = less_equal e
-values_same (x ∷ xs) [] e = greater_equal e
-values_same (x ∷ xs) (y ∷ ys) e =
-    let first : x ≡ y = value_same x y (then_first (value_cmp x y) (values_cmp xs ys) e) in
-    let rest : xs ≡ ys = values_same xs ys (then_second (value_cmp x y) (values_cmp xs ys) e) in
-    λ i. first i ∷ rest i
-
-pub atom_same : AtomsThatStandLevelAreTheSame
-atom_same a b e =
-    let signs : Ordering = sign_cmp a.negated b.negated in
-    let by_args : Ordering = ordering_then (values_cmp a.args b.args) signs in
-    let by_count : Ordering = ordering_then (nat_cmp (length a.args) (length b.args)) by_args in
-    let counted : by_count ≡ Equal = then_second (bytes_cmp a.name b.name) by_count e in
-    let compared : by_args ≡ Equal = then_second (nat_cmp (length a.args) (length b.args)) by_args counted in
-    atom_from_parts a b (sign_same a.negated b.negated (then_second (values_cmp a.args b.args) signs compared))
-    (bytes_same a.name b.name (then_first (bytes_cmp a.name b.name) by_count e)) (values_same a.args b.args (then_first (values_cmp a.args b.args) signs compared))
+-- ---- one line
 
 -- no atom is below one that is below it
 not_both_below : (a b : Atom) → atom_cmp a b ≡ Less → atom_cmp b a ≡ Less → ⊥
 not_both_below a b e f = greater_less (sym (ap ordering_reverse f) ∙ sym (atom_cmp_total.antisymm a b) ∙ e)
-
-pub same_atom : (a b : Atom) → (a ≡ b) ⊎ (¬ (a ≡ b))
-same_atom a b = go (atom_cmp a b) refl
-  where
-    go : (o : Ordering) → atom_cmp a b ≡ o → (a ≡ b) ⊎ (¬ (a ≡ b))
-    go Less e = inr (λ same. less_equal (sym e ∙ ap (atom_cmp a) (sym same) ∙ tied_itself atom_cmp_total a))
-    go Equal e = inl (atom_same a b e)
-    go Greater e = inr (λ same. greater_equal (sym e ∙ ap (atom_cmp a) (sym same) ∙ tied_itself atom_cmp_total a))
-
--- ---- one line
 
 sorted_once : (es bs : List Atom) → IsInOrder es → IsInOrder bs → es ⊆ bs → bs ⊆ es → es ≡ bs
 sorted_once [] [] p q to back = refl
@@ -118,6 +58,7 @@ sorted_once (a ∷ es) (b ∷ bs) p q to back =
         let less : atom_cmp c x ≡ Less = Each-at (λ y. atom_cmp c y ≡ Less) cs x below k in
         equal_less (sym (tied_itself atom_cmp_total c) ∙ ap (atom_cmp c) (same ∙ sym e) ∙ less)
 
+-- and only one
 pub a_set_has_one_line : ASetHasOneLine
 a_set_has_one_line I x y h k =
     let sorted : h.sorted ≡ k.sorted =
@@ -197,6 +138,7 @@ sort_back : (es : List Atom) → sort es ⊆ es
 sort_back [] x k = absurd k
 sort_back (a ∷ es) x k = elim (place_from a (sort es) x k) [ inl e ↦ inl e | inr j ↦ inr (sort_back es x j) ]
 
+-- each set has a line
 pub a_set_has_a_line : ASetHasALine
 a_set_has_a_line I = (
   line_of (sort I),

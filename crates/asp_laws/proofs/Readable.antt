@@ -13,10 +13,12 @@ use Rattle.asp_meaning.specs.declared.value.Value.TheFolds.{fold-roll-Value, ind
 use Rattle.asp_meaning.specs.Terms.{functional}
 use Rattle.asp_meaning.specs.Atoms.{Atom}
 use Rattle.asp_meaning.specs.Lines.{each_after, joined, call_text, integer_text, value_text, sign_text, atom_text, line_of}
-use Rattle.asp_laws.specs.ReadableAtoms.{value_parts_step, value_parts, IsReadable, LinesTellTheirSets, OneLineForTheSameSet}
+use Rattle.asp_meaning.specs.Readable.{value_parts_step, value_parts, IsReadableValue, IsReadable}
+use Rattle.asp_meaning.proofs.Layers.{text-functional}
+use Rattle.asp_meaning.proofs.AtomOrder.{atom_from_parts}
+use Rattle.asp_laws.specs.ReadableAtoms.{LinesTellTheirSets, OneLineForTheSameSet}
 use Rattle.asp_laws.proofs.Numerals.{integers_have_their_own_text}
 use Rattle.asp_laws.proofs.Written.{each_kind_is_written}
-use Rattle.asp_laws.proofs.Foundations.{atom_from_parts}
 use Rattle.asp_laws.proofs.Endings.{first, rest_same, IsPart, IsApart, split, Ends, at_close, at_comma, at_brace, id_parts, id_first, integer_parts, no_name, closes}
 
 -- a line of a set is one of the same set
@@ -25,15 +27,11 @@ one_line_for_the_same_set I J line same h = record { sorted = h.sorted; same = S
 
 -- ---- readable values
 
--- each name in the value is an ID, and each text may stand between quotes
-abbrev pub Readable : Value → Type 0
-Readable v = Each IsAllowed (value_parts v)
-
 -- a value by what its text begins with
 data Shape : Value → Type 0 where
   whole : (z : ℤ) → Shape (value.Int z)
   quoted : (x : List ℕ) → IsText x → Shape (value.Text x)
-  called : (f : List ℕ) (args : List Value) → IsId f → Each Readable args → Shape (functional f args)
+  called : (f : List ℕ) (args : List Value) → IsId f → Each IsReadableValue args → Shape (functional f args)
 
 -- what holds of all parts holds of those on the left, and of those on the right
 each_left : (xs ys : List Part) → Each IsAllowed (xs ++ ys) → Each IsAllowed xs
@@ -45,17 +43,17 @@ each_right [] ys h = h
 each_right (x ∷ xs) ys h = each_right xs ys h.1
 
 -- each argument is readable where all their parts are allowed
-pub each_readable : (vs : List Value) → Each IsAllowed (concat (map value_parts vs)) → Each Readable vs
+pub each_readable : (vs : List Value) → Each IsAllowed (concat (map value_parts vs)) → Each IsReadableValue vs
 each_readable [] h = tt
 each_readable (v ∷ vs) h =
     (each_left (value_parts v) (concat (map value_parts vs)) h, each_readable vs (each_right (value_parts v) (concat (map value_parts vs)) h))
 
 -- the names and texts of a value, by its outermost symbol
-layer_parts : (y : Value-F Value) → Readable (roll-Value y) → Each IsAllowed (value_parts_step (map-Value Value (List Part) value_parts y))
+layer_parts : (y : Value-F Value) → IsReadableValue (roll-Value y) → Each IsAllowed (value_parts_step (map-Value Value (List Part) value_parts y))
 layer_parts y h = subst (Each IsAllowed) (fold-roll-Value (List Part) value_parts_step y) h
 
 -- a readable value has one of the three shapes
-layer_shape : (y : Value-F Value) → Readable (roll-Value y) → Shape (roll-Value y)
+layer_shape : (y : Value-F Value) → IsReadableValue (roll-Value y) → Shape (roll-Value y)
 layer_shape (layer.Int z) h = subst Shape (sym (value.rolls-Int z)) (whole z)
 layer_shape (layer.Symbol x) h = subst Shape (sym (value.rolls-Symbol x)) (called x [] (layer_parts (layer.Symbol x) h).0 tt)
 layer_shape (layer.Text x) h = subst Shape (sym (value.rolls-Text x)) (quoted x (layer_parts (layer.Text x) h).0)
@@ -64,8 +62,8 @@ layer_shape (layer.Fun f v vs) h =
     subst Shape (sym (value.rolls-Fun f v vs)) (called f (v ∷ vs) parts.0 (each_readable (v ∷ vs) parts.1))
 
 -- so does each readable value
-shape : (v : Value) → Readable v → Shape v
-shape v h = subst Shape (roll-out-Value v) (layer_shape (out-Value v) (subst Readable (sym (roll-out-Value v)) h))
+shape : (v : Value) → IsReadableValue v → Shape v
+shape v h = subst Shape (roll-out-Value v) (layer_shape (out-Value v) (subst IsReadableValue (sym (roll-out-Value v)) h))
 
 -- ---- the text of a call
 
@@ -95,14 +93,9 @@ call_is f (v ∷ vs) r =
     append_assoc f (codes "(" ++ (joined (codes ",") (map value_text (v ∷ vs)) ++ codes ")")) r
     ∙ ap (λ l. f ++ 40 ∷ l) (rest_same 44 44 _ _ (further_text (v ∷ vs) r))
 
--- a functional term is written as a call
-functional_text : (f : List ℕ) (vs : List Value) → value_text (functional f vs) ≡ call_text f (map value_text vs)
-functional_text f [] = each_kind_is_written.1 f
-functional_text f (v ∷ vs) = each_kind_is_written.3 f v vs
-
 -- the text of a value of each shape before a rest
 functional_is : (f : List ℕ) (vs : List Value) (r : List ℕ) → (value_text (functional f vs) ++ r) ≡ (f ++ arguments vs r)
-functional_is f vs r = ap (λ l. l ++ r) (functional_text f vs) ∙ call_is f vs r
+functional_is f vs r = ap (λ l. l ++ r) (text-functional f vs) ∙ call_is f vs r
 
 quoted_is : (x r : List ℕ) → (value_text (value.Text x) ++ r) ≡ (34 ∷ (x ++ 34 ∷ r))
 quoted_is x r = ap (λ l. l ++ r) (each_kind_is_written.2 x) ∙ ap (λ l. 34 ∷ l) (append_assoc x (34 ∷ []) r)
@@ -124,14 +117,14 @@ arguments_begin (v ∷ vs) r h = (λ k. omega arith, λ e. omega arith)
 
 -- the value is the only one with its text, and the rest the only rest
 abbrev Told : Value → Type 0
-Told v = Readable v → (w : Value) → Shape w → (r s : List ℕ) → Ends r → Ends s → (value_text v ++ r) ≡ (value_text w ++ s) → (v ≡ w) × (r ≡ s)
+Told v = IsReadableValue v → (w : Value) → Shape w → (r s : List ℕ) → Ends r → Ends s → (value_text v ++ r) ≡ (value_text w ++ s) → (v ≡ w) × (r ≡ s)
 
 -- no name and no integer begins or ends with a quote
 no_quote : {A : Type 0} (x r s : List ℕ) → Each IsPart x → IsApart r → first r ≢ 34 → (x ++ r) ≡ (34 ∷ s) → A
 no_quote x r s part apart other e = absurd (other (ap first (split x [] r (34 ∷ s) part tt apart (λ k. omega arith) e).1))
 
 -- arguments up to the parenthesis are told where each is
-further_told : (vs ws : List Value) → Each Told vs → Each Readable vs → Each Readable ws → (r s : List ℕ) → further_args vs r ≡ further_args ws s → (vs ≡ ws) × (r ≡ s)
+further_told : (vs ws : List Value) → Each Told vs → Each IsReadableValue vs → Each IsReadableValue ws → (r s : List ℕ) → further_args vs r ≡ further_args ws s → (vs ≡ ws) × (r ≡ s)
 further_told [] [] told h k r s e = (refl, rest_same 41 41 r s e)
 further_told [] (w ∷ ws) told h k r s e = let same = ap first e in absurd (omega (arith, same))
 further_told (v ∷ vs) [] told h k r s e = let same = ap first e in absurd (omega (arith, same))
@@ -142,7 +135,7 @@ further_told (v ∷ vs) (w ∷ ws) told h k r s e =
     ((λ i. one.0 i ∷ more.0 i), more.1)
 
 -- so are arguments in parentheses, or the lack of them
-arguments_told : (vs ws : List Value) → Each Told vs → Each Readable vs → Each Readable ws → (r s : List ℕ) → Ends r → Ends s → arguments vs r ≡ arguments ws s → (vs ≡ ws) × (r ≡ s)
+arguments_told : (vs ws : List Value) → Each Told vs → Each IsReadableValue vs → Each IsReadableValue ws → (r s : List ℕ) → Ends r → Ends s → arguments vs r ≡ arguments ws s → (vs ≡ ws) × (r ≡ s)
 arguments_told [] [] told h k r s p q e = (refl, e)
 arguments_told [] (w ∷ ws) told h k r s p q e = absurd (p.no_arguments (ap first e))
 arguments_told (v ∷ vs) [] told h k r s p q e = absurd (q.no_arguments (ap first (sym e)))
@@ -150,7 +143,7 @@ arguments_told (v ∷ vs) (w ∷ ws) told h k r s p q e =
     further_told (v ∷ vs) (w ∷ ws) told h k r s (ap (λ l. 44 ∷ l) (rest_same 40 40 (value_text v ++ further_args vs r) (value_text w ++ further_args ws s) e))
 
 -- a call, as its name and its arguments
-call_told : (f g : List ℕ) (vs ws : List Value) → IsId f → IsId g → Each Told vs → Each Readable vs → Each Readable ws → (r s : List ℕ) → Ends r → Ends s
+call_told : (f g : List ℕ) (vs ws : List Value) → IsId f → IsId g → Each Told vs → Each IsReadableValue vs → Each IsReadableValue ws → (r s : List ℕ) → Ends r → Ends s
     → (f ++ arguments vs r) ≡ (g ++ arguments ws s) → (f ≡ g) × (vs ≡ ws) × (r ≡ s)
 call_told f g vs ws i j told h k r s p q e =
     let names = split f g (arguments vs r) (arguments ws s) (id_parts f i) (id_parts g j) (arguments_begin vs r p).0 (arguments_begin ws s q).0 e in
@@ -177,7 +170,7 @@ quoted_told x h (called f args i k) r s p q e =
     no_quote f (arguments args s) (x ++ 34 ∷ r) (id_parts f i) begin.0 begin.1 (sym (functional_is f args s) ∙ sym e ∙ quoted_is x r)
 
 -- a symbol or a functional term is told, where its arguments are
-called_told : (f : List ℕ) (args : List Value) → IsId f → Each Told args → Each Readable args → {w : Value} → Shape w → (r s : List ℕ) → Ends r → Ends s
+called_told : (f : List ℕ) (args : List Value) → IsId f → Each Told args → Each IsReadableValue args → {w : Value} → Shape w → (r s : List ℕ) → Ends r → Ends s
     → (value_text (functional f args) ++ r) ≡ (value_text w ++ s) → (functional f args ≡ w) × (r ≡ s)
 called_told f args j told h (whole u) r s p q e =
     no_name u f j (split (integer_text u) f s (arguments args r) (integer_parts u) (id_parts f j) q.apart (arguments_begin args r p).0 (sym (whole_is u s) ∙ sym e ∙ functional_is f args r)).0

@@ -1,7 +1,7 @@
 -- The answer sets of small programs.
 use Rattle.std.proofs.Common.{◌≡◌, ◌⊎◌, inl, inr, refl, sym, ap, subst, ◌∙◌, ℕ, pos, true, false, not, List, [], ◌∷◌}
 use Rattle.lists.specs.Lists.{◌∈◌, HasNoRepeats, Each, AtLeastOne}
-use Rattle.lists.proofs.ListLemmas.{Each-at, AtLeastOne-from, SameSet-refl}
+use Rattle.lists.proofs.ListLemmas.{Each-at, AtLeastOne-from, SameSet-refl, none-member}
 use Rattle.asp_syntax.specs.declared.tree.Literal.TheVariants as literal
 use Rattle.asp_syntax.specs.declared.tree.Statement.{Statement}
 use Rattle.asp_meaning.specs.declared.value.Value.TheVariants as value
@@ -18,10 +18,6 @@ use Rattle.asp_laws.proofs.Foundations.{Becomes-one, each_atom_is_licensed, self
 pub any : Substitution
 any v = value.Int (pos 0)
 
-nothing_in : {A : Type 0} (xs : List A) → ((x : A) → ¬ (x ∈ xs)) → xs ≡ []
-nothing_in [] none = refl
-nothing_in (x ∷ xs) none = absurd (none x (inl refl))
-
 -- the body holds in no empty set
 abbrev NeedsOne : Statement → Type 0
 NeedsOne r = (s : Substitution) → BodyHolds r s [] → ⊥
@@ -37,7 +33,7 @@ empty_answer_set P needs = record {
 
 pub the_empty_program : TheEmptyProgramHasTheEmptySet
 the_empty_program I = (
-  λ h. nothing_in I (λ a among. each_atom_is_licensed [] I h a among),
+  λ h. none-member I (λ a among. each_atom_is_licensed [] I h a among),
   λ e. subst (IsAnswerSet []) (sym e) (empty_answer_set [] tt),
 )
 
@@ -60,7 +56,7 @@ constraint_licenses_nothing a I s x l = l.head
 
 pub a_loop_has_the_empty_set : ALoopHasTheEmptySet
 a_loop_has_the_empty_set a b I = (
-  λ h. nothing_in I (λ x among. out h x among (each_atom_is_licensed _ I h x among)),
+  λ h. none-member I (λ x among. out h x among (each_atom_is_licensed _ I h x among)),
   λ e. subst (IsAnswerSet (rule a b ∷ rule b a ∷ [])) (sym e) (empty_answer_set _ ((λ s h. h.0.2), ((λ s h. h.0.2), tt))),
 )
   where
@@ -101,7 +97,7 @@ pub one_or_none : (x : Atom) (I : List Atom) → HasNoRepeats I → ((y : Atom) 
 one_or_none x [] once all = inl refl
 one_or_none x (y ∷ ys) once all =
     let first : y ≡ x = all y (inl refl) in
-    let rest : ys ≡ [] = nothing_in ys (λ z k. once.0 (subst (λ w. w ∈ ys) (all z (inr k) ∙ sym first) k)) in
+    let rest : ys ≡ [] = none-member ys (λ z k. once.0 (subst (λ w. w ∈ ys) (all z (inr k) ∙ sym first) k)) in
     inr (λ i. first i ∷ rest i)
 
 -- a set of one atom is consistent

@@ -19,7 +19,7 @@ use Rattle.asp_laws.specs.Words.{IsPlainHead, IsNormalItem, IsNormal}
 use Rattle.asp_laws.specs.Laws.{AnswerSetsAreThoseOfTheReduct, AnAnswerSetIsLeastUnderItsReduct, AnAnswerSetIsClosedUnderItsReduct, NoAnswerSetLiesInAnother}
 use Rattle.asp_laws.proofs.Foundations.{item_rests_on_set}
 use Rattle.asp_laws.proofs.Moves.{rests_grow, item_rests_grow}
-use Rattle.asp_laws.proofs.Lines.{same_atom}
+use Rattle.asp_meaning.proofs.AtomOrder.{same_atom}
 
 -- ---- what holds is what is kept and what it rests on
 

@@ -1,5 +1,6 @@
 -- Which tuples a sum has.
 use Rattle.std.proofs.Common.{◌≡◌, ◌⊎◌, inl, inr, refl, sym, ap, ◌∙◌, ℕ, ◌==◌, cond, ℤ, pos, negsuc, ◌+ℤ◌, List, [], ◌∷◌, Option, Some, codes, false, arith}
+use Rattle.std.proofs.lemmas.Option.{same_Some}
 use Rattle.lists.specs.Lists.{◌∈◌, AtLeastOne}
 use Rattle.asp_syntax.specs.declared.tree.Guard.{Guard}
 use Rattle.asp_syntax.specs.declared.tree.Literal.{Literal}
@@ -59,9 +60,6 @@ w_reads t h = go h.2
     go (inr (inr (inl e))) = inr (inr (at (negsuc 1) (codes "c") e))
     go (inr (inr (inr k))) = absurd k
 
-same_tuple : (xs ys : List Value) → Some xs ≡ Some ys → xs ≡ ys
-same_tuple xs ys e = cc
-
 three_is_not_minus_two : (xs ys : List Value) → ¬ (value.Int (pos 3) ∷ xs ≡ value.Int (negsuc 1) ∷ ys)
 three_is_not_minus_two xs ys e = let f : pos 3 ≡ negsuc 1 = sym (weight-Int (pos 3) xs) ∙ ap weight e ∙ weight-Int (negsuc 1) ys in cc
 
@@ -93,7 +91,7 @@ equal_tuples s left right = (
     given tuple (inr (inr k)) = absurd k
 
     is : (tuple : List Value) (t : Substitution) (n : ℤ) → eval_all t weight_alone ≡ Some tuple → t (named (codes "W")) ≡ value.Int n → tuple ≡ value.Int n ∷ []
-    is tuple t n e f = same_tuple tuple (value.Int n ∷ []) (sym e ∙ eval_one t (codes "W") ∙ (λ i. Some (f i ∷ [])))
+    is tuple t n e f = same_Some tuple (value.Int n ∷ []) (sym e ∙ eval_one t (codes "W") ∙ (λ i. Some (f i ∷ [])))
 
     back : (tuple : List Value) (t : Substitution) → eval_all t weight_alone ≡ Some tuple
         → Reads t (pos 3) (codes "a") ⊎ Reads t (pos 3) (codes "b") ⊎ Reads t (negsuc 1) (codes "c") → tuple ∈ alone
@@ -147,7 +145,7 @@ other_tuples s left right = (
     given tuple (inr (inr (inr k))) = absurd k
 
     is : (tuple : List Value) (t : Substitution) (n : ℤ) (x : List ℕ) → eval_all t weight_and_name ≡ Some tuple → Reads t n x → tuple ≡ pair n x
-    is tuple t n x e f = same_tuple tuple (pair n x) (sym e ∙ eval_two t (codes "W") (codes "I") ∙ (λ i. Some (f.0 i ∷ f.1 i ∷ [])))
+    is tuple t n x e f = same_Some tuple (pair n x) (sym e ∙ eval_two t (codes "W") (codes "I") ∙ (λ i. Some (f.0 i ∷ f.1 i ∷ [])))
 
     back : (tuple : List Value) (t : Substitution) → eval_all t weight_and_name ≡ Some tuple
         → Reads t (pos 3) (codes "a") ⊎ Reads t (pos 3) (codes "b") ⊎ Reads t (negsuc 1) (codes "c") → tuple ∈ pairs

@@ -11,9 +11,10 @@ use Rattle.asp_meaning.specs.declared.value.Value.TheViews.{roll-Value}
 use Rattle.asp_meaning.specs.declared.value.Value.TheFolds.{fold-roll-Value, ind-Value, map-Value}
 use Rattle.asp_meaning.specs.Atoms.{Atom}
 use Rattle.asp_meaning.specs.Lines.{each_after, joined, call_text, integer_text, value_text_step, value_text, sign_text, atom_text}
-use Rattle.asp_laws.specs.ReadableAtoms.{value_parts_step, value_parts, IsReadable, LinesOfReadableAtomsAreWhole}
+use Rattle.asp_meaning.specs.Readable.{value_parts_step, value_parts, IsReadableValue, IsReadable}
+use Rattle.asp_laws.specs.ReadableAtoms.{LinesOfReadableAtomsAreWhole}
 use Rattle.asp_laws.proofs.Endings.{IsPart, id_parts, integer_parts}
-use Rattle.asp_laws.proofs.Readable.{Readable, each_readable, sorted_readable}
+use Rattle.asp_laws.proofs.Readable.{each_readable, sorted_readable}
 
 -- ---- bytes without a line feed
 
@@ -66,14 +67,14 @@ call_no_feed f (x ∷ xs) is each =
 
 -- the text of the value has no line feed where its names and texts are those of the language
 abbrev IsWhole : Value → Type 0
-IsWhole v = Readable v → HasNoFeed (value_text v)
+IsWhole v = IsReadableValue v → HasNoFeed (value_text v)
 
 -- a value with its proof
 abbrev Proved : Type 0
 Proved = (v : Value) × IsWhole v
 
 -- texts of arguments
-each_no_feed : (vs : List Value) → Each IsWhole vs → Each Readable vs → Each HasNoFeed (map value_text vs)
+each_no_feed : (vs : List Value) → Each IsWhole vs → Each IsReadableValue vs → Each HasNoFeed (map value_text vs)
 each_no_feed [] whole h = tt
 each_no_feed (v ∷ vs) whole h = (whole.0 h.0, each_no_feed vs whole.1 h.1)
 

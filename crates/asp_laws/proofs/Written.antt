@@ -1,29 +1,24 @@
 -- How values stand to one another, and how they are written.
-use Rattle.std.proofs.Common.{◌≡◌, inl, inr, refl, sym, ap, ◌∙◌, ℕ, ℤ, pos, negsuc, Bool, true, false, List, [], ◌∷◌, ◌++◌, map, length, codes, arith}
+use Rattle.std.proofs.Common.{◌≡◌, inl, inr, refl, sym, ap, ◌∙◌, ℕ, pos, negsuc, Bool, true, false, List, [], ◌∷◌, ◌++◌, map, length, codes, arith}
 use Rattle.std.specs.declared.cmp.Ordering.{Ordering}
 use Rattle.std.specs.declared.cmp.Ordering.TheVariants.{Less, Equal, Greater}
-use Rattle.std.specs.Ordering.{nat_cmp, int_cmp, ordering_then}
+use Rattle.std.specs.Ordering.{nat_cmp, ordering_then}
 use Rattle.lists.specs.Lists.{◌⊆◌}
 use Rattle.lists.proofs.ListLemmas.{Each-map}
 use Rattle.asp_meaning.specs.declared.value.Value.{Value}
 use Rattle.asp_meaning.specs.declared.value.Value.TheVariants as value
 use Rattle.asp_meaning.specs.declared.value.Value.TheOpen.{Value-F}
 use Rattle.asp_meaning.specs.declared.value.Value.TheOpen as layer
-use Rattle.asp_meaning.specs.declared.value.Value.TheViews.{roll-Value}
-use Rattle.asp_meaning.specs.declared.value.Value.TheFolds.{fold-roll-Value, map-Value}
-use Rattle.asp_meaning.specs.Orders.{bytes_cmp, args_cmp, layer_cmp, value_cmp, values_cmp}
+use Rattle.asp_meaning.specs.Orders.{bytes_cmp, args_cmp, value_cmp, values_cmp}
 use Rattle.asp_meaning.specs.Atoms.{Atom}
-use Rattle.asp_meaning.specs.Lines.{sign_cmp, joined, integer_text, value_text, value_text_step, atom_cmp, IsInOrder}
+use Rattle.asp_meaning.specs.Lines.{sign_cmp, joined, value_text, atom_cmp, IsInOrder}
 use Rattle.asp_laws.specs.Examples.{v_of, minus_v_of, vs}
 use Rattle.asp_laws.specs.Laws.{KindsAreInOrder, EachKindIsOrdered, EachKindIsWritten, ALineIsWritten}
-use Rattle.asp_laws.proofs.Values.{cmp_roll, length-compared, nat_same}
-use Rattle.asp_laws.proofs.Lines.{atom_cmp_total}
+use Rattle.asp_meaning.proofs.Layers.{text-Int, text-Symbol, text-Text, text-functional}
+use Rattle.asp_meaning.proofs.ValueOrder.{by_layers, length-compared, nat_same, cmp-Int}
+use Rattle.asp_meaning.proofs.AtomOrder.{atom_cmp_total}
 
 -- ---- the order of values
-
--- the order of two values by their layers
-by_layers : (v w : Value) (x y : Value-F Value) → roll-Value x ≡ v → roll-Value y ≡ w → value_cmp v w ≡ layer_cmp (map-Value Value (Value → Ordering) value_cmp x) y
-by_layers v w x y p q = (λ i. value_cmp (sym p i) (sym q i)) ∙ cmp_roll x y
 
 pub kinds_are_in_order : KindsAreInOrder
 kinds_are_in_order n x y f first rest = (
@@ -62,21 +57,10 @@ each_kind_is_ordered = (
 
 -- ---- the text of a value
 
-text_of : (v : Value) (x : Value-F Value) → roll-Value x ≡ v → value_text v ≡ value_text_step (map-Value Value (List ℕ) value_text x)
-text_of v x p = ap value_text (sym p) ∙ fold-roll-Value (List ℕ) value_text_step x
-
 pub each_kind_is_written : EachKindIsWritten
-each_kind_is_written = (
-  (λ n. text_of (value.Int n) (layer.Int n) (value.rolls-Int n)),
-  (λ x. text_of (value.Symbol x) (layer.Symbol x) (value.rolls-Symbol x)),
-  (λ x. text_of (value.Text x) (layer.Text x) (value.rolls-Text x)),
-  (λ f x xs. text_of (value.Fun f x xs) (layer.Fun f x xs) (value.rolls-Fun f x xs)),
-)
+each_kind_is_written = (text-Int, text-Symbol, text-Text, λ f x xs. text-functional f (x ∷ xs))
 
 -- ---- a line
-
-int_text : (n : ℤ) → value_text (value.Int n) ≡ integer_text n
-int_text = each_kind_is_written.0
 
 -- each is below the next
 abbrev IsBelow : Atom → List Atom → Type 0
@@ -103,9 +87,6 @@ v_cmp p q x y e = ap (λ o. ordering_then (ordering_then o Equal) (sign_cmp p q)
 abbrev one : Value
 one = value.Int (pos 1)
 
-abbrev zero_twice : List Value
-zero_twice = value.Int (pos 0) ∷ value.Int (pos 0) ∷ []
-
 abbrev f_one : Value
 f_one = value.Fun (codes "f") one []
 
@@ -118,14 +99,11 @@ sorted =
     v_of [] ∷ v_of (value.Int (negsuc 0) ∷ []) ∷ minus_v_of (value.Int (pos 2) ∷ []) ∷ v_of (value.Symbol (codes "a") ∷ []) ∷ v_of (value.Symbol (codes "g") ∷ [])
     ∷ v_of (value.Text (codes "b") ∷ []) ∷ v_of (f_one ∷ []) ∷ v_of (f_zeros ∷ []) ∷ []
 
-ints : (m n : ℤ) → value_cmp (value.Int m) (value.Int n) ≡ int_cmp m n
-ints = each_kind_is_ordered.0
-
 sorted_in_order : IsInOrder sorted
 sorted_in_order = in_order-from_chain sorted (
   refl,
   (
-    v_cmp false true (value.Int (negsuc 0)) (value.Int (pos 2)) (ints (negsuc 0) (pos 2)),
+    v_cmp false true (value.Int (negsuc 0)) (value.Int (pos 2)) (cmp-Int (negsuc 0) (pos 2)),
     (
       v_cmp true false (value.Int (pos 2)) (value.Symbol (codes "a")) (kinds_are_in_order (pos 2) (codes "a") [] [] one []).0,
       (
@@ -143,12 +121,12 @@ sorted_in_order = in_order-from_chain sorted (
 )
 
 f_one_text : value_text f_one ≡ codes "f(1)"
-f_one_text = each_kind_is_written.3 (codes "f") one [] ∙ (λ i. codes "f" ++ (codes "(" ++ ((int_text (pos 1) i ++ []) ++ codes ")")))
+f_one_text = each_kind_is_written.3 (codes "f") one [] ∙ (λ i. codes "f" ++ (codes "(" ++ ((text-Int (pos 1) i ++ []) ++ codes ")")))
 
 f_zeros_text : value_text f_zeros ≡ codes "f(0,0)"
 f_zeros_text =
     each_kind_is_written.3 (codes "f") (value.Int (pos 0)) (value.Int (pos 0) ∷ [])
-    ∙ (λ i. codes "f" ++ (codes "(" ++ (joined (codes ",") (int_text (pos 0) i ∷ int_text (pos 0) i ∷ []) ++ codes ")")))
+    ∙ (λ i. codes "f" ++ (codes "(" ++ (joined (codes ",") (text-Int (pos 0) i ∷ text-Int (pos 0) i ∷ []) ++ codes ")")))
 
 -- the text of v(x), by that of x
 abbrev call : List ℕ → List ℕ
@@ -160,7 +138,7 @@ a_line_is_written = record {
   same = record { to = to; back = back };
   in_order = sorted_in_order;
   text = sym (λ i. codes "{" ++ (joined (codes ", ") (
-      codes "v" ∷ call (int_text (negsuc 0) i) ∷ (codes "-" ++ call (int_text (pos 2) i)) ∷ call (each_kind_is_written.1 (codes "a") i) ∷ call (each_kind_is_written.1 (codes "g") i)
+      codes "v" ∷ call (text-Int (negsuc 0) i) ∷ (codes "-" ++ call (text-Int (pos 2) i)) ∷ call (each_kind_is_written.1 (codes "a") i) ∷ call (each_kind_is_written.1 (codes "g") i)
       ∷ call (each_kind_is_written.2 (codes "b") i) ∷ call (f_one_text i) ∷ call (f_zeros_text i) ∷ []) ++ (codes "}" ++ (10 ∷ []))));
 }
   where

@@ -4,6 +4,7 @@ use Rattle.alpha_outside.specs.declared.kinds.ArithOp.TheVariants.{Add}
 use Rattle.asp_syntax.specs.declared.tree.AggKind.TheVariants as kind
 use Rattle.asp_syntax.specs.declared.tree.Aggregate.{Aggregate}
 use Rattle.asp_syntax.specs.declared.tree.Atom as syntax
+use Rattle.asp_syntax.specs.declared.tree.Literal.{Literal}
 use Rattle.asp_syntax.specs.declared.tree.Literal.TheVariants as literal
 use Rattle.asp_syntax.specs.declared.tree.CompareOp.TheVariants as op
 use Rattle.asp_syntax.specs.declared.tree.Guard.{Guard}
@@ -43,6 +44,14 @@ must_be a = record { line = 1; head = head.Absent; body = item.Plain (literal.Ne
 -- {a}.
 abbrev pub may_be : List ℕ → Statement
 may_be a = record { line = 1; head = head.Choice None (record { atom = written a; condition = [] } ∷ []) None; body = [] }
+
+-- {a : b}.
+abbrev pub may_be_where : List ℕ → List ℕ → Statement
+may_be_where a b = record {
+  line = 1;
+  head = head.Choice None (record { atom = written a; condition = literal.Positive (written b) ∷ [] } ∷ []) None;
+  body = [];
+}
 
 -- {a; b} = 1.
 abbrev pub one_of : List ℕ → List ℕ → Statement
@@ -85,6 +94,30 @@ weight_alone = term.Variable (codes "W") ∷ []
 
 abbrev pub weight_and_name : List Term
 weight_and_name = term.Variable (codes "W") ∷ term.Variable (codes "I") ∷ []
+
+-- ---- two elements with a variable of the same name
+
+-- the literal p(X), for the name p
+abbrev pub of_variable : List ℕ → Literal
+of_variable p = literal.Positive (record { negated = false; name = p; args = term.Variable (codes "X") ∷ [] })
+
+-- the atom p(x), for the name p and a value x
+abbrev pub value_of : List ℕ → Value → Atom
+value_of p x = record { negated = false; name = p; args = x ∷ [] }
+
+-- the tuple of one number
+abbrev pub tuple_of : ℕ → List Value
+tuple_of n = value.Int (pos n) ∷ []
+
+-- #count{1 : p(X); 2 : q(X)} with these guards, for the names p and q
+abbrev pub two_elements : List ℕ → List ℕ → Option Guard → Option Guard → Aggregate
+two_elements p q left right = record {
+  kind = kind.Count;
+  elements = record { terms = term.Int (pos 1) ∷ []; condition = of_variable p ∷ [] }
+      ∷ record { terms = term.Int (pos 2) ∷ []; condition = of_variable q ∷ [] } ∷ [];
+  left = left;
+  right = right;
+}
 
 -- ---- counting
 

@@ -28,12 +28,12 @@ use Rattle.asp_meaning.specs.Lines.{joined, integer_text, value_text, atom_cmp, 
 use Rattle.asp_meaning.specs.Terms.{Variable, Substitution, eval}
 use Rattle.asp_meaning.specs.Variables.{global_terms, global_variables}
 use Rattle.asp_meaning.specs.Atoms.{Atom, Becomes, strong_negation}
-use Rattle.asp_meaning.specs.Bodies.{LiteralHolds, Extends, IsExtent, total, ItemHolds}
+use Rattle.asp_meaning.specs.Bodies.{LiteralHolds, Extends, IsExtent, total, LeftHolds, RightHolds, ItemHolds}
 use Rattle.asp_meaning.specs.Output.{whole_lines, set_lines}
 use Rattle.asp_meaning.specs.Programs.{IsInstance, BodyHolds, LicensesFrom, Licenses, AreChosen, HeadIsMet, IsAnswerSet}
 use Rattle.asp_laws.specs.Words.{HasAtomIn, IsUnfounded, IsPositive, IsNormal}
 use Rattle.asp_laws.specs.Reduct.{IsStable, IsClosedUnderReduct}
-use Rattle.asp_laws.specs.Examples.{atom, fact, rule, rule_without, must_be, may_be, one_of, denied, weights, sum_over, weight_alone, weight_and_name, number, start, step, vs}
+use Rattle.asp_laws.specs.Examples.{atom, fact, rule, rule_without, must_be, may_be, may_be_where, one_of, denied, weights, sum_over, weight_alone, weight_and_name, value_of, tuple_of, two_elements, number, start, step, vs}
 
 -- ---- order
 
@@ -105,6 +105,10 @@ AChoiceGivesBoth = (a : List ℕ) (I : List Atom) → IsAnswerSet (may_be a ∷ 
 abbrev pub AChoiceOfOneGivesEach : Type 0
 AChoiceOfOneGivesEach = (a b : List ℕ) (I : List Atom) → IsAnswerSet (one_of a b ∷ []) I ↔ ((I ≡ atom a ∷ []) ⊎ (I ≡ atom b ∷ []))
 
+-- `{a : b}. {b : a}.` has the empty set alone: what a choice rests on must be there before it
+abbrev pub ChoicesThatRestOnOneAnother : Type 0
+ChoicesThatRestOnOneAnother = (a b : List ℕ) (I : List Atom) → IsAnswerSet (may_be_where a b ∷ may_be_where b a ∷ []) I ↔ (I ≡ [])
+
 -- `a :- not b. b :- not a.` has {a} and {b}, and no other
 abbrev pub TwoRulesWithoutEachOther : Type 0
 TwoRulesWithoutEachOther =
@@ -175,6 +179,19 @@ abbrev pub AnAggregateHasOneTotal : Type 0
 AnAggregateHasOneTotal =
     (globals : List Variable) (s : Substitution) (I : List Atom) (g : Aggregate) (xs ys : List (List Value))
     → IsExtent globals s I g xs → IsExtent globals s I g ys → (k : AggKind) → total k xs ≡ total k ys
+
+-- an aggregate under `not` is true where not all its guards are: with two guards, where they aren't both
+abbrev pub TwoGuardsUnderNot : Type 0
+TwoGuardsUnderNot =
+    (globals : List Variable) (s : Substitution) (I : List Atom) (g : Aggregate) (tuples : List (List Value)) → IsExtent globals s I g tuples
+    → ItemHolds globals s I (item.Aggregate true g) ↔ (¬ (LeftHolds s (total g.kind tuples) g.left × RightHolds s (total g.kind tuples) g.right))
+
+-- local variables of two elements are two variables, also where they have the same name: `#count{1 : p(X); 2 : q(X)}` has both tuples
+-- where there is some p(x) and some q(y)
+abbrev pub EqualLocalNamesAreTwoVariables : Type 0
+EqualLocalNamesAreTwoVariables =
+    (s : Substitution) (I : List Atom) (p q : List ℕ) (x y : Value) (tuples : List (List Value)) → IsExtent [] s I (two_elements p q None None) tuples
+    → value_of p x ∈ I → value_of q y ∈ I → (tuple_of 1 ∈ tuples) × (tuple_of 2 ∈ tuples)
 
 -- an aggregate and its `not` are never true together; the `Bool` of `item.Aggregate` says whether `not` stands before it
 abbrev pub NeverBesideItsDenial : Type 0

@@ -1,30 +1,10 @@
--- Atoms that a line tells: those with the names and texts of the language.
-use Rattle.std.specs.Prelude.{ℕ, List, [], ◌∷◌}
-use Rattle.lists.specs.Lists.{Each, SameSet, concat}
-use Rattle.asp_syntax.specs.WellFormed.{IsId}
-use Rattle.asp_meaning.specs.declared.value.Value.{Value}
-use Rattle.asp_meaning.specs.declared.value.Value.TheOpen.{Value-F}
-use Rattle.asp_meaning.specs.declared.value.Value.TheOpen as value
-use Rattle.asp_meaning.specs.declared.value.Value.TheFolds.{fold-Value}
+-- What a line tells of the set that it is of.
+use Rattle.std.specs.Prelude.{ℕ, List}
+use Rattle.lists.specs.Lists.{Each, SameSet}
 use Rattle.asp_meaning.specs.Atoms.{Atom}
 use Rattle.asp_meaning.specs.Lines.{IsSetLine}
 use Rattle.asp_meaning.specs.Output.{IsBraceLine}
-use Rattle.asp_syntax.specs.Trees.{Part, name, text, IsAllowed}
-
--- the names and texts in a value
-abbrev pub value_parts_step : Value-F (List Part) → List Part
-value_parts_step (value.Int z) = []
-value_parts_step (value.Symbol x) = name x ∷ []
-value_parts_step (value.Text x) = text x ∷ []
-value_parts_step (value.Fun f first rest) = name f ∷ concat (first ∷ rest)
-
-abbrev pub value_parts : Value → List Part
-value_parts = fold-Value (List Part) value_parts_step
-
--- each name is an ID other than `not`, and each text may stand between quotes
-pub record IsReadable (a : Atom) : Type 0 where
-  pub named : IsId a.name
-  pub arguments : Each (λ v. Each IsAllowed (value_parts v)) a.args
+use Rattle.asp_meaning.specs.Readable.{IsReadable}
 
 -- sets of readable atoms with one line are the same set
 abbrev pub LinesTellTheirSets : Type 0

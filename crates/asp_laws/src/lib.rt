@@ -10,10 +10,10 @@ ghost use Rattle.asp_meaning.specs.Lines.{atom_cmp};
 ghost use Rattle.asp_laws.specs.Laws.{OrderOfStatementsDoesNotMatter, OrderOfAtomsDoesNotMatter};
 ghost use Rattle.asp_laws.specs.Laws.{AnswerSetsAreThoseOfTheReduct, AnAnswerSetIsLeastUnderItsReduct, AnAnswerSetIsClosedUnderItsReduct};
 ghost use Rattle.asp_laws.specs.Laws.{EachAtomIsLicensed, UnfoundedSetsAreOut, SelfSupportIsNoFoundation, ALoopHasTheEmptySet, MustBeTrueAloneIsNoSupport, MustBeTrueInALoopIsNoSupport};
-ghost use Rattle.asp_laws.specs.Laws.{TheEmptyProgramHasTheEmptySet, AChoiceGivesBoth, AChoiceOfOneGivesEach, TwoRulesWithoutEachOther, CountingStops, NoAtomFollowsFromItsAbsence};
+ghost use Rattle.asp_laws.specs.Laws.{TheEmptyProgramHasTheEmptySet, AChoiceGivesBoth, AChoiceOfOneGivesEach, ChoicesThatRestOnOneAnother, TwoRulesWithoutEachOther, CountingStops, NoAtomFollowsFromItsAbsence};
 ghost use Rattle.asp_laws.specs.Laws.{OnlyGlobalVariablesMatter};
 ghost use Rattle.asp_laws.specs.Laws.{ALiteralNeverBesideItsDenial, ALiteralOrItsDenialHolds, AChoiceIsAFactOrNothing, NeverBesideStrongNegation, StrongNegationContradicts, NoAnswerSetLiesInAnother, APositiveProgramHasAtMostOne};
-ghost use Rattle.asp_laws.specs.Laws.{AnExtentIsOneSet, AnAggregateHasOneTotal, EqualTuplesCountOnce, OtherTuplesCountEach, NeverBesideItsDenial, AnAggregateOrItsDenialHolds, AChoiceHasOneNumber};
+ghost use Rattle.asp_laws.specs.Laws.{AnExtentIsOneSet, AnAggregateHasOneTotal, EqualTuplesCountOnce, OtherTuplesCountEach, NeverBesideItsDenial, AnAggregateOrItsDenialHolds, TwoGuardsUnderNot, EqualLocalNamesAreTwoVariables, AChoiceHasOneNumber};
 ghost use Rattle.asp_laws.specs.Laws.{AConstraintOnlyTakesAway, AFactIsInEachAnswerSet};
 ghost use Rattle.asp_laws.specs.Laws.{ArithmeticWithoutAValueGivesNoInstance, AStatementWithoutInstancesSaysNothing, NoDivisionByZero, NoArithmeticOnSymbols, DivisionCutsTowardsZero};
 ghost use Rattle.asp_laws.specs.Laws.{KindsAreInOrder, EachKindIsOrdered, EqualIsTheSame, ComparisonsAreOpposites};
@@ -50,6 +50,7 @@ pub fn small_programs()
     ensures the_empty_program_has_exactly_the_empty_set { TheEmptyProgramHasTheEmptySet }
     ensures a_choice_gives_both { AChoiceGivesBoth }
     ensures a_choice_of_one_gives_each { AChoiceOfOneGivesEach }
+    ensures choices_that_rest_on_one_another_choose_nothing { ChoicesThatRestOnOneAnother }
     ensures two_rules_without_each_other { TwoRulesWithoutEachOther }
     ensures counting_stops { CountingStops }
     ensures no_atom_follows_from_its_absence { NoAtomFollowsFromItsAbsence }
@@ -80,6 +81,8 @@ pub fn aggregates_have_one_total()
     ensures other_tuples_count_each { OtherTuplesCountEach }
     ensures never_beside_its_denial { NeverBesideItsDenial }
     ensures an_aggregate_or_its_denial_holds { AnAggregateOrItsDenialHolds }
+    ensures two_guards_under_not_are_not_both { TwoGuardsUnderNot }
+    ensures equal_local_names_are_two_variables { EqualLocalNamesAreTwoVariables }
     ensures a_choice_has_one_number { AChoiceHasOneNumber }
 {}
 

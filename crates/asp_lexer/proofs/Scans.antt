@@ -1,13 +1,12 @@
 -- The loops that look for the end of a string and of a block comment, and that read a number.
-use Rattle.std.proofs.Common.{◌≡◌, refl, sym, ap, subst, ◌∙◌, ℕ, zero, suc, ◌+◌, ◌-◌, ◌*◌, ◌<◌, ◌≤◌, Bool, true, false, ◌==◌, Option, Some, None, List, [], ◌∷◌, length, drop, get_or, arith}
+use Rattle.std.proofs.Common.{◌≡◌, refl, sym, ap, subst, ◌∙◌, ℕ, suc, ◌+◌, ◌-◌, ◌*◌, ◌<◌, ◌≤◌, true, false, Option, Some, None, List, [], ◌∷◌, length, drop, get_or, arith}
 use Rattle.std.specs.Prelude.{nat_le}
 use Rattle.std.specs.Option.{option_map}
-use Rattle.std.specs.List.{list_all}
-use Rattle.std.proofs.lemmas.Bool.{and_parts, cond-true, cond-false, cond_both, le-leb, lt-leb, leb-true, leb-false}
+use Rattle.std.proofs.lemmas.Bool.{cond-true, cond-false, cond_both, le-leb, lt-leb, leb-true, leb-false}
 use Rattle.std.proofs.lemmas.List.{drop_more}
 use Rattle.asp_syntax.specs.WellFormed.{largest}
 use Rattle.asp_lexer.specs.Tokens.{value_from, decimal}
-use Rattle.asp_lexer.specs.Lexemes.{is_closing, closing_quote, is_block_end, block_length, fitting}
+use Rattle.asp_lexer.specs.Lexemes.{is_block_end, block_length, fitting}
 
 -- ---- what the loops keep
 
@@ -16,26 +15,9 @@ abbrev pub after : ℕ → Option ℕ → Option ℕ
 after i None = None
 after i (Some k) = Some (i + k)
 
-pub after-zero : (o : Option ℕ) → o ≡ after 0 o
-after-zero None = refl
-after-zero (Some k) = ap Some (omega arith)
-
 pub after-suc : (i : ℕ) (o : Option ℕ) → after i (option_map suc o) ≡ after (i + 1) o
 after-suc i None = refl
 after-suc i (Some k) = ap Some (omega arith)
-
--- one turn of the loop that looks for the end of a string: on, found, or a line feed
-pub string_more : (bs : List ℕ) (i p : ℕ) → i < length bs → (get_or bs i 0 == 10) ≡ false → is_closing p (get_or bs i 0) ≡ false → after i (closing_quote p (drop i bs)) ≡ after (i + 1) (closing_quote (get_or bs i 0) (drop (i + 1) bs))
-string_more bs i p lt feed quote =
-    ap (λ xs. after i (closing_quote p xs)) (drop_more bs i 0 lt) ∙ ap (after i) (cond-false _ _ _ feed ∙ cond-false _ _ _ quote) ∙ after-suc i _
-
-pub string_here : (bs : List ℕ) (i p : ℕ) → i < length bs → (get_or bs i 0 == 10) ≡ false → is_closing p (get_or bs i 0) ≡ true → after i (closing_quote p (drop i bs)) ≡ Some i
-string_here bs i p lt feed quote =
-    ap (λ xs. after i (closing_quote p xs)) (drop_more bs i 0 lt) ∙ ap (after i) (cond-false _ _ _ feed ∙ cond-true _ _ _ quote) ∙ ap Some (omega arith)
-
-pub string_feed : (bs : List ℕ) (i p : ℕ) → i < length bs → (get_or bs i 0 == 10) ≡ true → after i (closing_quote p (drop i bs)) ≡ None
-string_feed bs i p lt feed =
-    ap (λ xs. after i (closing_quote p xs)) (drop_more bs i 0 lt) ∙ ap (after i) (cond-true _ _ _ feed)
 
 -- one turn of the loop that looks for the end of a block comment: on, or found
 pub block_more : (bs : List ℕ) (i p : ℕ) → i < length bs → is_block_end p (get_or bs i 0) ≡ false → after i (block_length p (drop i bs)) ≡ after (i + 1) (block_length (get_or bs i 0) (drop (i + 1) bs))
@@ -47,12 +29,6 @@ block_here bs i p lt ends =
     ap (λ xs. after i (block_length p xs)) (drop_more bs i 0 lt) ∙ ap (after i) (cond-true _ _ _ ends)
 
 -- ---- numbers
-
--- what all bytes pass, this one passes
-pub list_all_at : (p : ℕ → Bool) (xs : List ℕ) (i : ℕ) → i < length xs → list_all p xs ≡ true → p (get_or xs i 0) ≡ true
-list_all_at p [] i lt h = absurd (omega arith)
-list_all_at p (x ∷ xs) zero lt h = (and_parts _ _ h).0
-list_all_at p (x ∷ xs) (suc i) lt h = list_all_at p xs i (omega arith) (and_parts _ _ h).1
 
 -- the value with one more digit
 pub value-more : (xs : List ℕ) (i n : ℕ) → i < length xs → value_from n (drop i xs) ≡ value_from (n * 10 + (get_or xs i 0 - 48)) (drop (i + 1) xs)

@@ -5,8 +5,8 @@ use Rattle.std.specs.Str.{bytes_eq}
 use Rattle.std.specs.List.{take_while, prefix_len}
 use Rattle.std.proofs.lemmas.Bool.{cond_both, eqb-true, eqb-false, not-false}
 use Rattle.std.proofs.lemmas.Slice.Eq.{bytes_eq-Decides}
-use Rattle.std.proofs.lemmas.List.{length-take-le}
 use Rattle.std.proofs.lemmas.List.Sums.{prefix_len-le-length}
+use Rattle.lists.proofs.Places.{run_taken, run_within}
 use Rattle.asp_syntax.specs.declared.tree.CompareOp.TheVariants.{Equal, NotEqual, Less, LessEqual, Greater, GreaterEqual}
 use Rattle.asp_syntax.specs.declared.token.Token.{Token}
 use Rattle.asp_syntax.specs.declared.token.Token.TheVariants as token
@@ -39,15 +39,6 @@ stands_either : (bs : List ℕ) (v : Bool) (x y : Lexeme) → (v ≡ true → St
 stands_either bs v x y h k = cond_both v x y (StandsFirst bs) h k
 
 -- ---- runs
-
--- a run is the first bytes, as many as it is long
-run_taken : (p : ℕ → Bool) (bs : List ℕ) → take (length (take_while p bs)) bs ≡ take_while p bs
-run_taken p bs = ap (λ n. take n bs) (length-take-le (prefix_len p bs) bs (prefix_len-le-length p bs))
-
-run_within : (p : ℕ → Bool) (bs : List ℕ) → length (take_while p bs) ≤ length bs
-run_within p bs =
-    let e : length (take_while p bs) ≡ prefix_len p bs = length-take-le (prefix_len p bs) bs (prefix_len-le-length p bs) in
-    omega (arith, e, prefix_len-le-length p bs)
 
 -- a run whose first byte passes takes at least that
 run_takes : (p : ℕ → Bool) (b : ℕ) (bs : List ℕ) → p b ≡ true → Takes (length (take_while p (b ∷ bs))) (b ∷ bs)

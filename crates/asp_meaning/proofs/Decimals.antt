@@ -20,7 +20,8 @@ has_digit zero m few other =
 has_digit (suc k) m few other = omega arith
 
 -- two counts of digits that are both enough give the same digits
-enough : (k j n : ℕ) (text : List ℕ) → n < 10 ^ k → n < 10 ^ j → 0 < k → 0 < j → digits_onto k 10 false n text ≡ digits_onto j 10 false n text
+enough : (k j n : ℕ) (text : List ℕ) → n < 10 ^ k → n < 10 ^ j → 0 < k → 0 < j
+    → digits_onto k 10 false n text ≡ digits_onto j 10 false n text
 enough zero j n text a b p q = absurd (omega (arith, p))
 enough (suc k) zero n text a b p q = absurd (omega (arith, q))
 enough (suc k) (suc j) n text a b p q =
@@ -44,6 +45,7 @@ unfolding digits
 natural_text-decimal n fits = enough (suc n) 64 n [] (few_digits n) fits (omega arith) (lit< tt)
 
 -- the text of an integer of 64 bits
-pub integer_text-decimal : (z : ℤ) → ((n : ℕ) → z ≡ pos n → n < 10 ^ 64) → ((n : ℕ) → z ≡ negsuc n → suc n < 10 ^ 64) → integer_text z ≡ signed_decimal z
+pub integer_text-decimal : (z : ℤ) → ((n : ℕ) → z ≡ pos n → n < 10 ^ 64) → ((n : ℕ) → z ≡ negsuc n → suc n < 10 ^ 64)
+    → integer_text z ≡ signed_decimal z
 integer_text-decimal (pos n) up down = natural_text-decimal n (up n refl)
 integer_text-decimal (negsuc n) up down = ap (λ text. 45 ∷ text) (natural_text-decimal (suc n) (down n refl))

@@ -1,2 +1,5 @@
 pub mod LineLemmas
 pub mod Decimals
+pub mod Layers
+pub mod ValueOrder
+pub mod AtomOrder

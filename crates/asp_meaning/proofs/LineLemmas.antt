@@ -1,8 +1,10 @@
 -- The whole lines of an output that is made of lines.
 use Rattle.std.proofs.Common.{◌≡◌, ◌⊎◌, inl, inr, refl, sym, ap, ◌∙◌, ℕ, zero, suc, Bool, true, false, ◌==◌, cond, List, [], ◌∷◌, ◌++◌, filter, take, append_assoc, append-nil, arith}
 use Rattle.lists.specs.Lists.{◌∈◌, Each, concat}
+use Rattle.lists.proofs.Places.{∈-take}
 use Rattle.asp_meaning.specs.Output.{before_first, whole_lines, begins_with_brace, set_lines, IsBraceLine}
 
+-- other numbers are told apart
 differs : (b c : ℕ) → ¬ (b ≡ c) → (b == c) ≡ false
 differs b c apart = by_case (b == c) refl
   where
@@ -32,23 +34,20 @@ set_lines-line line rest is =
     ap set_lines split ∙ ap (filter begins_with_brace) (whole_lines-line (123 ∷ is.inner) rest none) ∙ ap (λ xs. xs ∷ set_lines rest) (sym is.is)
 
 -- set lines, and then whatever comes
-pub set_lines-concat : (lines : List (List ℕ)) (rest : List ℕ) → Each IsBraceLine lines → set_lines (concat lines ++ rest) ≡ lines ++ set_lines rest
+pub set_lines-concat : (lines : List (List ℕ)) (rest : List ℕ) → Each IsBraceLine lines
+    → set_lines (concat lines ++ rest) ≡ lines ++ set_lines rest
 set_lines-concat [] rest whole = refl
 set_lines-concat (line ∷ lines) rest whole =
     ap set_lines (append_assoc line (concat lines) rest) ∙ set_lines-line line (concat lines ++ rest) whole.0 ∙ ap (λ xs. line ∷ xs) (set_lines-concat lines rest whole.1)
 
-∈-take : (b n : ℕ) (xs : List ℕ) → b ∈ take n xs → b ∈ xs
-∈-take b zero xs among = absurd among
-∈-take b (suc n) [] among = absurd among
-∈-take b (suc n) (x ∷ xs) (inl e) = inl e
-∈-take b (suc n) (x ∷ xs) (inr among) = inr (∈-take b n xs among)
-
+-- a front of nothing
 take-nil : (n : ℕ) → take {A = ℕ} n [] ≡ []
 take-nil zero = refl
 take-nil (suc n) = refl
 
 -- a front of a line is without its line feed, or whole
-part_or_whole : (n : ℕ) (front : List ℕ) → ((k : ℕ) × (take n (front ++ (10 ∷ [])) ≡ take k front)) ⊎ (take n (front ++ (10 ∷ [])) ≡ front ++ (10 ∷ []))
+part_or_whole : (n : ℕ) (front : List ℕ)
+    → ((k : ℕ) × (take n (front ++ (10 ∷ [])) ≡ take k front)) ⊎ (take n (front ++ (10 ∷ [])) ≡ front ++ (10 ∷ []))
 part_or_whole zero front = inl (0, refl)
 part_or_whole (suc n) [] = inr (ap (λ xs. 10 ∷ xs) (take-nil n))
 part_or_whole (suc n) (b ∷ front) = elim (part_or_whole n front) [
@@ -56,8 +55,9 @@ part_or_whole (suc n) (b ∷ front) = elim (part_or_whole n front) [
   | inr whole ↦ inr (ap (λ xs. b ∷ xs) whole)
 ]
 
+-- a front that is no whole line has no set line
 no_lines-take : (k : ℕ) (front : List ℕ) → ¬ (10 ∈ front) → set_lines (take k front) ≡ []
-no_lines-take k front none = ap (filter begins_with_brace) (whole_lines-part (take k front) (λ among. none (∈-take 10 k front among)))
+no_lines-take k front none = ap (filter begins_with_brace) (whole_lines-part (take k front) (λ among. none (∈-take k front 10 among)))
 
 -- of a front of a set line nothing is a set line, or the whole of it
 pub set_lines-take : (n : ℕ) (line : List ℕ) → IsBraceLine line → (set_lines (take n line) ≡ []) ⊎ (set_lines (take n line) ≡ line ∷ [])

@@ -6,4 +6,4 @@ pub mod Bodies
 pub mod Programs
 pub mod Lines
 pub mod Output
-pub mod Horn
+pub mod Readable

@@ -13,10 +13,11 @@
 //! | `Programs.antt` | instances, closed and founded sets, answer sets |
 //! | `Lines.antt` | the line of a set |
 //! | `Output.antt` | the set lines of an output |
+//! | `Readable.antt` | atoms whose names and texts are those of the language |
 //!
 //! The language is a profile of ASP-Core-2 (Calimeri and others, *ASP-Core-2 Input Language Format*, 2020), whose sections the
 //! definitions name. Answer sets are those of Gelfond and Lifschitz (1988, 1991), stated by an ordered list in place of the reduct.
-//! There is no grounding, nogood, trail, numbering or search in them.
+//! There is no grounding, nogood, trail, numbering or search in them. `proofs/` has lemmas on the orders and the texts.
 #![tactic(auto)]
 
 mod value;

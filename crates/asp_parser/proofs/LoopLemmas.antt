@@ -17,6 +17,7 @@ use Rattle.asp_grammar.specs.Nesting.{Levels, one_level, levels_after, levels_th
 use Rattle.asp_grammar.specs.Faults.{syntax, too_deep, FaultAt, at_token, Parsed}
 use Rattle.asp_grammar.proofs.TermLemmas.{none_some, some_is}
 use Rattle.asp_grammar.proofs.SignLemmas.{pending, pending_in}
+use Rattle.asp_grammar.proofs.StandingLemmas.{none_pending}
 use Rattle.asp_grammar.proofs.FaultLemmas.{Sound, sound_on, sound_parsed, sound_stopped, named_first, broken_first, deep_first, large_first, pending_signs, levels_more, take_on}
 use Rattle.asp_parser.specs.declared.fault.ParseFault.{ParseFault}
 use Rattle.asp_parser.specs.declared.fault.ParseFault.TheVariants as fault
@@ -35,14 +36,6 @@ counted_pending _ h = absurd (h refl)
 counted_pending_in : (w : Progress) → signs_in w ≢ 0 → pending_in w ≡ true
 counted_pending_in (at.Between done) h = absurd (h refl)
 counted_pending_in (at.Inside done line s) h = counted_pending s h
-
--- where none is counted, none is pending
-none_pending : (w : Progress) → signs_in w ≡ 0 → pending_in w ≡ false
-none_pending w e = go (pending_in w) refl
-  where
-    go : (b : Bool) → pending_in w ≡ b → pending_in w ≡ false
-    go false f = f
-    go true f = absurd (pending_signs w f e)
 
 -- ---- nesting
 

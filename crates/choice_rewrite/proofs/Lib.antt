@@ -1,4 +1,4 @@
-pub mod Parts
-pub mod Bounds
-pub mod Singles
-pub mod Sets
+pub mod AboveLemmas
+pub mod ListedNames
+pub mod SignLists
+pub mod GivenLaws

@@ -1,102 +1,139 @@
 //! The single rules of a program.
 //!
-//! Each statement gives one rule with its head and body. The terms outside elements stand beside it once more, as those that have to be
-//! defined.
+//! A statement with one head or none gives one rule, one with a choice a rule for each element and one for its bounds. The terms of the
+//! statement outside elements stand beside each once more, as those that have to be defined. Constraints for strong negation come last.
 
-ghost use Rattle.std.specs.Prelude.{◌≡◌, ◌↔◌, List, IfOk};
-ghost use Rattle.lists.specs.Lists.{Each};
+ghost use Rattle.std.specs.Prelude.{◌≡◌, ◌↔◌, ◌++◌, ◌∷◌, [], List, map, OnOk, IfOk};
+ghost use Rattle.lists.specs.Lists.{Each, concat};
 ghost use Rattle.asp_syntax.specs.Trees.{IsWellFormedStatement};
 ghost use Rattle.asp_meaning.specs.Atoms.{Atom as Fact};
 ghost use Rattle.asp_meaning.specs.Programs.{IsAnswerSet};
-ghost use Rattle.choice_rewrite.specs.Conditions.{IsSplittable};
-ghost use Rattle.choice_rewrite.specs.SingleRules.{AreSingleRules, IsWellFormedRule};
-ghost use Rattle.choice_rewrite.specs.AnswerSets.{IsSingleAnswerSet};
-ghost use Rattle.choice_rewrite.specs.Splitting.{kind_of, single_head, single_of as rule_of, singles_of};
+ghost use Rattle.asp_meaning.specs.Variables.{global_terms};
+ghost use Rattle.single_rules.specs.SingleRules.{AreSingleRules, IsWellFormedRule};
+ghost use Rattle.single_rules.specs.AnswerSets.{IsSingleAnswerSet};
+ghost use Rattle.single_rules.specs.Splitting.{constraint_rule as constraint_of, plain_rule as plain_of, element_rule, bound_rules, rules_with, rules_of, singles_of};
 
-use crate::SingleRule;
 use crate::defined::defined_of;
+use crate::elements::{copy_body, push_bounds, push_elements};
+use crate::renaming::names_of;
+use crate::signs::push_signs;
 use alpha_outside::{List, OutOfMemory, RuleKind};
 use asp_safety::SafeProgram;
-use asp_syntax::{Atom, Head, Item, Statement};
+use asp_syntax::{Atom, ChoiceElement, Guard, Head, Statement};
+use single_rules::{SingleRule, single_rules_are_sound, single_rules_keep_answer_sets};
 use std::alloc::Global;
 
-// The kind of a statement with this head.
-fn kind_with(head: &Head) -> RuleKind
-    ensures { result ≡ kind_of head.now }
+// The rule of a statement without a head.
+fn constraint_rule(alloc: Global, statement: &Statement) -> Result<SingleRule, OutOfMemory>
+    ensures { IfOk result (λ rule. rule ≡ constraint_of statement.now) }
 {
-    match head {
-        Head::Absent => RuleKind::Constraint,
-        Head::Single(_) => RuleKind::Plain,
-        Head::Choice {
-            left: _,
-            elements: _,
-            right: _,
-        } => RuleKind::Choice,
-    }
-}
-
-// A copy of the atom that the head is, if it is one.
-fn copy_head(alloc: Global, head: &Head) -> Result<Option<Atom>, OutOfMemory>
-    ensures { IfOk result (λ copy. copy ≡ single_head head.now) }
-{
-    match head {
-        Head::Absent => Ok(None),
-        Head::Single(atom) => Ok(Some(atom.copy(alloc)?)),
-        Head::Choice {
-            left: _,
-            elements: _,
-            right: _,
-        } => Ok(None),
-    }
-}
-
-// A copy of a body.
-fn copy_body(alloc: Global, body: &[Item]) -> Result<List<Item>, OutOfMemory>
-    ensures { IfOk result (λ copies. copies ≡ body.now) }
-{
-    let mut copies = List::new(alloc);
-    for item in body {
-        copies.push(item.copy(alloc)?)?;
-    }
-    Ok(copies)
-}
-
-// The rule of a statement.
-fn single_of(alloc: Global, statement: &Statement) -> Result<SingleRule, OutOfMemory>
-    ensures { IfOk result (λ rule. rule ≡ rule_of statement.now) }
-{
-    let head = copy_head(alloc, &statement.head)?;
     let body = copy_body(alloc, statement.body.as_slice())?;
     let defined = defined_of(alloc, statement)?;
     Ok(SingleRule {
-        kind: kind_with(&statement.head),
-        head,
+        kind: RuleKind::Constraint,
+        head: None,
         body,
         defined,
         line: statement.line,
     })
 }
 
+// The rule of a statement with this head.
+fn plain_rule(alloc: Global, statement: &Statement, head: &Atom) -> Result<SingleRule, OutOfMemory>
+    ensures { IfOk result (λ rule. rule ≡ plain_of statement.now head.now) }
+{
+    let head = head.copy(alloc)?;
+    let body = copy_body(alloc, statement.body.as_slice())?;
+    let defined = defined_of(alloc, statement)?;
+    Ok(SingleRule {
+        kind: RuleKind::Plain,
+        head: Some(head),
+        body,
+        defined,
+        line: statement.line,
+    })
+}
+
+// Puts the rules of a statement whose head is this choice at the end.
+fn push_choice(
+    alloc: Global,
+    statement: &Statement,
+    left: &Option<Guard>,
+    elements: &[ChoiceElement],
+    right: &Option<Guard>,
+    into: &mut List<SingleRule>,
+) -> Result<(), OutOfMemory>
+    ensures { OnOk result (into.new ≡ into.old ++ (map (element_rule statement.now) elements.now ++ bound_rules statement.now left.now elements.now right.now)) }
+{
+    let defined = defined_of(alloc, statement)?;
+    let names = names_of(alloc, statement, defined.as_slice())?;
+    push_elements(alloc, statement, &names, defined.as_slice(), elements, into)?;
+    push_bounds(
+        alloc,
+        statement,
+        defined.as_slice(),
+        left,
+        elements,
+        right,
+        into,
+    )
+}
+
+// Puts the rules of a statement at the end.
+fn push_rules(
+    alloc: Global,
+    statement: &Statement,
+    into: &mut List<SingleRule>,
+) -> Result<(), OutOfMemory>
+    ensures { OnOk result (into.new ≡ into.old ++ rules_with statement.now statement.now.head) }
+{
+    match &statement.head {
+        Head::Absent => {
+            into.push(constraint_rule(alloc, statement)?)?;
+            Ok(())
+        }
+        Head::Single(atom) => {
+            into.push(plain_rule(alloc, statement, atom)?)?;
+            Ok(())
+        }
+        Head::Choice {
+            left,
+            elements,
+            right,
+        } => push_choice(alloc, statement, left, elements.as_slice(), right, into),
+    }
+}
+
 // The rules of statements, in their order.
-fn rules_of(alloc: Global, statements: &[Statement]) -> Result<List<SingleRule>, OutOfMemory>
-    ensures { IfOk result (λ rules. rules ≡ singles_of statements.now) }
+fn rules_of_all(alloc: Global, statements: &[Statement]) -> Result<List<SingleRule>, OutOfMemory>
+    ensures { IfOk result (λ rules. rules ≡ concat (map rules_of statements.now)) }
 {
     let mut rules = List::new(alloc);
     for statement in statements {
-        rules.push(single_of(alloc, statement)?)?;
+        push_rules(alloc, statement, &mut rules)?;
     }
     Ok(rules)
 }
 
-/// The single rules of a program, in the order of its statements. They have its answer sets.
+// The single rules of statements.
+fn singles(alloc: Global, statements: &[Statement]) -> Result<List<SingleRule>, OutOfMemory>
+    ensures { IfOk result (λ rules. rules ≡ singles_of statements.now) }
+{
+    let mut rules = rules_of_all(alloc, statements)?;
+    push_signs(alloc, statements, &mut rules)?;
+    Ok(rules)
+}
+
+/// The single rules of a program: those of its statements in their order, and then those for strong negation. They have its answer sets.
 pub fn split(alloc: Global, program: SafeProgram) -> Result<List<SingleRule>, OutOfMemory>
-    requires splittable { Each IsSplittable program.statements }
-    requires well_formed { Each IsWellFormedStatement program.statements }
+    requires { Each IsWellFormedStatement program.statements }
     ensures rules { IfOk result (λ rules. rules ≡ singles_of program.statements) }
     ensures single { IfOk result AreSingleRules }
     ensures well_formed { IfOk result (Each IsWellFormedRule) }
     ensures answer_sets { IfOk result (λ rules. (I : List Fact) → IsAnswerSet program.statements I ↔ IsSingleAnswerSet rules I) }
 {
-    let rules = rules_of(alloc, program.statements())?;
+    single_rules_are_sound();
+    single_rules_keep_answer_sets();
+    let rules = singles(alloc, program.statements())?;
     Ok(rules)
 }

@@ -20,7 +20,7 @@ use Rattle.search_rules.proofs.RuleInstances.{some_same}
 use Rattle.ground_search.specs.Searching.{Searching, state_of}
 use Rattle.ground_search.specs.Moves.{IsRuleMade, NoChoice}
 use Rattle.enumerator.specs.Standing.{IsReady, LookIs}
-use Rattle.enumerator.specs.Moves.{MoveIs, IsQuiet, IsIdle, NoneIsDue, NoneSince}
+use Rattle.enumerator.specs.Moves.{MoveIs, GivesNow, IsQuiet, IsIdle, NoneIsDue, NoneSince}
 use Rattle.enumerator.specs.declared.moves.Move.TheVariants as move
 use Rattle.enumerator.proofs.AllOf.{each_becomes}
 use Rattle.enumerator.proofs.Sizes.{too_large_above}
@@ -97,7 +97,7 @@ module _ (v : Searching) (ready : IsReady v) where
   }
 
   -- a value that a nogood gives
-  pub may_put : (n a : ℕ) (value : Value) → MoveIs v (move.Put n a value) → Allowed (search_rules v.core) [] (state_of v) (Put a value n)
+  pub may_put : (n a : ℕ) (value : Value) → GivesNow v n a value → Allowed (search_rules v.core) [] (state_of v) (Put a value n)
   may_put n a value next = (ready.still.free, next.1)
 
   -- a decision on an active body

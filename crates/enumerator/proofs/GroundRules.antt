@@ -25,7 +25,7 @@ use Rattle.core_meaning.specs.Terms.{Binding, eval, eval_all, outcome}
 use Rattle.core_meaning.specs.Atoms.{GroundAtom, User, ground_atom, with_arguments, atom_under}
 use Rattle.core_meaning.specs.Instances.{is_true, is_met, kind_under, atoms_under, assembled, instance_in}
 use Rattle.term_eval.proofs.TermInduction.{children, by_children}
-use Rattle.term_eval.proofs.Meeting.{ground_value}
+use Rattle.term_eval.proofs.MetLemmas.{ground_value}
 use Rattle.search_rules.specs.Tests.{Maker}
 use Rattle.search_rules.specs.Rules.{instance_by}
 use Rattle.search_rules.specs.Stage.{IsGroundRule, IsGroundCore, rule_terms, head_terms}

@@ -27,7 +27,7 @@ use Rattle.ground_search.specs.Searching.{Searching, ids, state_of, terms_of}
 use Rattle.ground_search.specs.Underivable.{IsOut, other_head, needs_itself, lacks, has_false_body, IsUnderivable, IsPatternAt, justified_lits, with_justified}
 use Rattle.ground_search.specs.declared.covering.Underivable.{Underivable}
 use Rattle.enumerator.specs.Standing.{IsReady, IsGrounded, LookIs}
-use Rattle.enumerator.specs.Moves.{MoveIs, IsQuiet}
+use Rattle.enumerator.specs.Moves.{MoveIs, GivesNow, IsQuiet}
 use Rattle.enumerator.specs.Measures.{work_left}
 use Rattle.enumerator.specs.Naming.{OnlyNames}
 use Rattle.enumerator.specs.Runs.{Runs, Stepped}
@@ -157,7 +157,7 @@ module _ (v v' : Searching) (told told' : Option outside.Journal) (u : Underivab
   others_hold l i = subst (λ stack. Holds stack l) (sym just.stack) (false_hold v u.falses next.2.are_false l i)
 
   -- where the atom has no value, it becomes false
-  pub justified_unit : value_of v'.stack u.atom ≡ None → MoveIs v' (move.Put n u.atom False)
+  pub justified_unit : value_of v'.stack u.atom ≡ None → GivesNow v' n u.atom False
   justified_unit free = (
     justified_low,
     (

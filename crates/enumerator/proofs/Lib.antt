@@ -14,6 +14,7 @@ pub mod NamesCome
 pub mod Looked
 pub mod Instancing
 pub mod Stepping
+pub mod ValueRuns
 pub mod Filling
 pub mod Empty
 pub mod Counting

@@ -7,7 +7,7 @@ use Rattle.lists.proofs.ListLemmas.{Each-at, Each-from, ∈-append_left, ∈-app
 use Rattle.asp_meaning.specs.Atoms.{Atom}
 use Rattle.asp_meaning.specs.Lines.{IsSetLine}
 use Rattle.asp_meaning.specs.Output.{IsBraceLine}
-use Rattle.asp_laws.specs.ReadableAtoms.{IsReadable}
+use Rattle.asp_meaning.specs.Readable.{IsReadable}
 use Rattle.asp_laws.proofs.Readable.{one_line_for_the_same_set, lines_tell_their_sets}
 use Rattle.asp_laws.proofs.WholeLines.{lines_of_readable_atoms_are_whole}
 use Rattle.core_rules.specs.declared.rules.Core.{Core}

@@ -22,10 +22,12 @@ use Rattle.search_theory.specs.States.{IsName}
 use Rattle.search_values.proofs.Basics.{get_in}
 use Rattle.search_theory.proofs.Events.{legal_safe}
 use Rattle.term_eval.specs.Evals.{HasTooLarge}
-use Rattle.term_eval.proofs.Meeting.{met_without}
+use Rattle.term_eval.proofs.MetLemmas.{met_without}
 use Rattle.search_rules.specs.Rules.{Reached, search_rules}
 use Rattle.search_rules.specs.Stage.{rule_terms}
-use Rattle.search_rules.specs.Faults.{Binds, in_atom, by_equation, IsFaultyBinding, IsTooLarge}
+use Rattle.term_eval.specs.Faulty.{Binds, in_atom, by_equation, IsFaultyBinding}
+use Rattle.search_rules.specs.Faults.{IsTooLarge}
+use Rattle.search_rules.specs.Faults as fault
 use Rattle.ground_search.specs.Searching.{Searching, ids, assigned, state_of}
 use Rattle.ground_search.specs.Moves.{IsDue}
 use Rattle.ground_search.specs.Resolving.{atoms_of}
@@ -36,7 +38,7 @@ use Rattle.enumerator.specs.declared.naming.NameList.TheVariants as list
 use Rattle.enumerator.specs.declared.naming.HeadName.TheVariants as head
 use Rattle.enumerator.specs.Naming.{OnlyNames, AreNamesOf, IsHeadOf}
 use Rattle.enumerator.specs.Runs.{Runs, Stepped, IsAlmostDue}
-use Rattle.enumerator.specs.Moves.{MoveIs}
+use Rattle.enumerator.specs.Moves.{MoveIs, GivesNow}
 use Rattle.enumerator.specs.declared.moves.Move.{Move}
 use Rattle.enumerator.specs.declared.moves.Move.TheVariants as move
 use Rattle.enumerator.proofs.Standing.{event_carries, cause_on, note_fault}
@@ -56,7 +58,7 @@ once_at v journal legal is x y a n n' =
 -- ---- the steps
 
 -- a value was given, and there is less to do
-pub runs_put : (v v' : Searching) (told told' : Option outside.Journal) (n a : ℕ) (value : Value) → IsReady v → MoveIs v (move.Put n a value) → v' ≡ assigned v a value (Given n) → ids v < 4294967296
+pub runs_put : (v v' : Searching) (told told' : Option outside.Journal) (n a : ℕ) (value : Value) → IsReady v → GivesNow v n a value → v' ≡ assigned v a value (Given n) → ids v < 4294967296
     → told' ≡ option_map (with_event (say.Put a value n)) told → Stepped v v' told told' None
 runs_put v v' told told' n a value ready next is few t = (
   record {
@@ -188,7 +190,7 @@ module _ (v : Searching) (kept : IsKept v) (m : ℕ) (due : IsDue v m) where
   no_value x w e = cc
 
   -- the rule has a faulty binding, which gives no values
-  faulty : IsFaultyBinding v.core (state_of v) due.rule (slice_get [])
+  faulty : IsFaultyBinding v.core (fault.IsUp (state_of v)) due.rule (slice_get [])
   faulty =
       let look = kept.looked m due.rule (Some due.atoms) due.there due.known in record {
         among = among;

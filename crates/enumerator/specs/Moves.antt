@@ -2,7 +2,7 @@
 use Rattle.std.specs.Prelude.{◌≡◌, ◌⊎◌, ℕ, ◌<◌, Some, None, slice_get}
 use Rattle.lists.specs.Lists.{◌∈◌}
 use Rattle.alpha_outside.specs.declared.literal.Value.TheVariants.{MustBe}
-use Rattle.search_values.specs.Values.{value_of, HasClosed}
+use Rattle.search_values.specs.Values.{Value, value_of, HasClosed}
 use Rattle.search_values.specs.Nogoods.{Nogood, IsStruck, Gives, NoneStruck, NoneUnit}
 use Rattle.search_values.specs.Tables.{Made}
 use Rattle.search_theory.specs.States.{IsActive}
@@ -12,7 +12,7 @@ use Rattle.ground_search.specs.Searching.{Searching, ids, state_of}
 use Rattle.ground_search.specs.Underivable.{IsUnderivable}
 use Rattle.ground_search.specs.Moves.{IsDue, NothingIsDue, NamesAreSmall, NoChoice, IsNamed}
 use Rattle.enumerator.specs.declared.moves.Move.{Move}
-use Rattle.enumerator.specs.declared.moves.Move.TheVariants.{Strike, Put, Make, Justify, Choose, Close, TooLarge, Stuck, Full}
+use Rattle.enumerator.specs.declared.moves.Move.TheVariants.{Strike, Make, Justify, Choose, Close, TooLarge, Stuck, Full}
 
 -- some named atom is must-be-true
 abbrev pub SomeMustBe : Searching → Type 0
@@ -45,10 +45,13 @@ pub record IsIdle (v : Searching) : Type 0 where
   pub none_due : NoneIsDue v
   pub no_choice : NoChoice v
 
+-- the nogood of this id is unit, and gives the atom the value
+abbrev pub GivesNow : Searching → ℕ → ℕ → Value → Type 0
+GivesNow v n a value = (a < ids v) × ((ng : Nogood) × (slice_get v.nogoods n ≡ Some ng) × Gives v.stack ng a value)
+
 -- this is what comes next
 abbrev pub MoveIs : Searching → Move → Type 0
 MoveIs v (Strike n) = (ng : Nogood) × (slice_get v.nogoods n ≡ Some ng) × IsStruck v.stack ng
-MoveIs v (Put n a value) = (a < ids v) × ((ng : Nogood) × (slice_get v.nogoods n ≡ Some ng) × Gives v.stack ng a value)
 MoveIs v (Make m) = IsQuiet v × NoneSince v × IsDue v m
 MoveIs v (Justify u) = IsQuiet v × (¬ HasClosed v.stack) × IsUnderivable v u.atom u.falses
 MoveIs v (Choose b) = IsQuiet v × NoneSince v × NoneIsDue v × (b < ids v) × ((k : Made Maker) × (k ∈ v.made) × IsActive (state_of v) k b)
@@ -60,7 +63,6 @@ MoveIs v Full = IsQuiet v × IsIdle v × NoneMustBe v × NoneUnassigned v
 -- a conflict, a stuck atom or a set, after which the literals chosen are learned; or the end of the search by a term that is too large
 abbrev pub IsHalt : Move → Type 0
 IsHalt (Strike n) = Unit {0}
-IsHalt (Put n a value) = ⊥
 IsHalt (Make m) = ⊥
 IsHalt (Justify u) = ⊥
 IsHalt (Choose b) = ⊥

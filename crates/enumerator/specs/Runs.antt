@@ -1,5 +1,5 @@
 -- What a step leaves, before the literals chosen are learned: nothing is shown or struck.
-use Rattle.std.specs.Prelude.{◌≡◌, ℕ, ◌<◌, Bool, true, false, List, [], Option, Some, None, slice_get}
+use Rattle.std.specs.Prelude.{◌≡◌, ℕ, ◌<◌, ◌≤◌, Bool, true, false, List, [], Option, Some, None, slice_get}
 use Rattle.lists.specs.Lists.{◌∈◌}
 use Rattle.alpha_outside.specs.Outside as outside
 use Rattle.core_rules.specs.declared.rules.CoreRule.{CoreRule}
@@ -24,6 +24,10 @@ pub record Runs (v v' : Searching) (told told' : Option outside.Journal) : Type 
   pub ready : IsReady v'
   pub stays : (ng : Nogood) → ng ∈ v.nogoods → ng ∈ v'.nogoods
   pub carries : (held : Option (List ℕ)) (left rest : ℕ) → Carries v v' told told' held held (left, rest) (left, rest)
+
+-- the search ran on, and there is no more to do than before
+abbrev pub GoesOn : Searching → Searching → Option outside.Journal → Option outside.Journal → Type 0
+GoesOn v v' told told' = Runs v v' told told' × (work_left v' ≤ work_left v)
 
 -- a step was taken, after which there is less to do, or the search has come to a halt
 abbrev pub Stepped : Searching → Searching → Option outside.Journal → Option outside.Journal → Option Move → Type 0

@@ -9,7 +9,7 @@ use crate::answers::SearchFault;
 use crate::justifying::justify;
 use crate::making::make;
 use crate::moves::{Move, is_halt, next_move};
-use crate::steps::{choose, close, put};
+use crate::steps::{choose, close};
 use alpha_outside::Trace;
 use ground_search::Search;
 use std::alloc::Global;
@@ -29,7 +29,6 @@ fn step<T: Trace>(
     ensures err { IfErr result (IsTraceFault search.old (T.journal trace.old) (T.journal trace.new) (T.faults trace.old) (T.faults trace.new)) }
 {
     match found {
-        Move::Put(by, atom, value) => put(search, trace, *by, *atom, *value),
         Move::Make(rule) => make(search, alloc, trace, *rule),
         Move::Justify(underivable) => justify(search, alloc, trace, underivable),
         Move::Choose(body) => choose(search, trace, *body),
@@ -55,9 +54,7 @@ pub fn advance<T: Trace>(
     ensures err { IfErr result (IsTraceFault search.old (T.journal trace.old) (T.journal trace.new) (T.faults trace.old) (T.faults trace.new)) }
 {
     'stepping: loop {
-        let Ok(found) = next_move(search) else {
-            return Err(SearchFault::OutOfMemory);
-        };
+        let found = next_move(search, trace)?;
         if is_halt(&found) {
             return Ok(found);
         }

@@ -13,6 +13,7 @@ mod looking;
 mod making;
 mod moves;
 mod naming;
+mod propagating;
 mod searching;
 mod settle;
 mod steps;

@@ -1,21 +1,25 @@
-//! What a search does next. A nogood that is struck or unit comes first; then an atom that stays must-be-true above a closed one;
+//! What a search does next. Propagation comes first, and a nogood that is struck by it; then an atom that stays must-be-true above a closed one;
 //! then an instance that is due; then an atom that no rule gives; then a body that is active. Where there is none of these, the state is
 //! settled: a must-be-true atom stays so, or an unassigned atom is closed, or a set is found.
 
-ghost use Rattle.std.specs.Prelude.{◌≡◌, ◌⊎◌, true, false, IfOk};
+ghost use Rattle.std.specs.Prelude.{◌≡◌, ◌≤◌, ◌⊎◌, true, false, IfOk, IfErr};
 ghost use Rattle.search_values.specs.Values.{HasClosed};
+ghost use Rattle.ground_search.specs.Moves.{FixIs};
+ghost use Rattle.enumerator.specs.Standing.{IsReady, IsTraceFault};
+ghost use Rattle.enumerator.specs.Runs.{GoesOn};
 ghost use Rattle.enumerator.specs.Moves.{MoveIs, IsHalt, IsQuiet, IsIdle, NoneSince, SomeMustBe, NoneMustBe};
 
-use alpha_outside::{AtomId, NogoodId, OutOfMemory, Value};
-use ground_search::{Finding, Search, Underivable};
+use crate::answers::SearchFault;
+use crate::propagating::propagate;
+use alpha_outside::{AtomId, NogoodId, OutOfMemory, Trace};
+use ground_search::{Search, Underivable};
+use propagation::Fix;
 
 /// What comes next.
 #[derive(Debug, Drop)]
 pub enum Move {
     /// The nogood is struck.
     Strike(NogoodId),
-    /// The nogood is unit, and gives the atom the value.
-    Put(NogoodId, AtomId, Value),
     /// The rule's instance is due.
     Make(u32),
     /// No rule gives the atom.
@@ -32,14 +36,31 @@ pub enum Move {
     Full,
 }
 
-/// What comes next where nothing in particular has to.
-pub fn next_move(search: &Search) -> Result<Move, OutOfMemory>
+/// Propagates, and then tells what comes next where nothing in particular has to.
+pub fn next_move<T: Trace>(search: &mut Search, trace: &mut T) -> Result<Move, SearchFault>
+    requires ready { IsReady search.old }
+    ensures later { T.faults trace.old ≤ T.faults trace.new }
+    ensures goes_on { IfOk result (λ found. GoesOn search.old search.new (T.journal trace.old) (T.journal trace.new)) }
+    ensures next { IfOk result (MoveIs search.new) }
+    ensures err { IfErr result (IsTraceFault search.old (T.journal trace.old) (T.journal trace.new) (T.faults trace.old) (T.faults trace.new)) }
+{
+    match propagate(search, trace) {
+        Ok(fix) => match move_after(&*search, fix) {
+            Ok(found) => Ok(found),
+            Err(_) => Err(SearchFault::OutOfMemory),
+        },
+        Err(fault) => Err(fault),
+    }
+}
+
+// What comes next after a propagation that ended so.
+fn move_after(search: &Search, fix: Fix) -> Result<Move, OutOfMemory>
+    requires { FixIs search.now fix }
     ensures { IfOk result (MoveIs search.now) }
 {
-    match search.find() {
-        Finding::Struck(nogood) => Ok(Move::Strike(nogood)),
-        Finding::Unit(nogood, atom, value) => Ok(Move::Put(nogood, atom, value)),
-        Finding::Quiet => quiet_move(search),
+    match fix {
+        Fix::Struck(nogood) => Ok(Move::Strike(nogood)),
+        Fix::Quiet => quiet_move(search),
     }
 }
 

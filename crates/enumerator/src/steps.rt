@@ -3,7 +3,7 @@
 ghost use Rattle.std.specs.Prelude.{◌≡◌, ◌≤◌, OnOk, IfOk, IfErr, option_map};
 ghost use Rattle.alpha_outside.specs.Outside.{with_event};
 ghost use Rattle.enumerator.specs.Standing.{IsTraceCause, IsReady, IsTraceFault};
-ghost use Rattle.enumerator.specs.Moves.{MoveIs};
+ghost use Rattle.enumerator.specs.Moves.{MoveIs, GivesNow};
 ghost use Rattle.enumerator.specs.Runs.{Stepped};
 
 use crate::answers::SearchFault;
@@ -34,7 +34,7 @@ pub fn put<T: Trace>(
     value: Value,
 ) -> Result<Option<Move>, SearchFault>
     requires ready { IsReady search.old }
-    requires next { MoveIs search.old (Move.Put by atom value) }
+    requires next { GivesNow search.old by atom value }
     ensures later { T.faults trace.old ≤ T.faults trace.new }
     ensures ok { IfOk result (Stepped search.old search.new (T.journal trace.old) (T.journal trace.new)) }
     ensures err { IfErr result (IsTraceFault search.old (T.journal trace.old) (T.journal trace.new) (T.faults trace.old) (T.faults trace.new)) }

@@ -5,7 +5,7 @@ use Rattle.std.specs.Option.{option_map}
 use Rattle.std.proofs.lemmas.List.{map-append, length-map}
 use Rattle.std.proofs.lemmas.Option.{slice_get_read}
 use Rattle.lists.specs.Lists.{◌∈◌, Each}
-use Rattle.lists.proofs.ListLemmas.{∈-append_cases}
+use Rattle.lists.proofs.ListLemmas.{∈-append_cases, ∈-map, ∈-map_from}
 use Rattle.alpha_outside.specs.declared.node.Node.{Node}
 use Rattle.alpha_outside.specs.declared.pred.Pred.{Pred}
 use Rattle.alpha_outside.specs.declared.literal.Lit.{Lit}
@@ -17,6 +17,10 @@ use Rattle.search_values.specs.Values.{value_of, first_level, level_of, opened, 
 use Rattle.search_values.proofs.Basics.{in_single, get_in}
 use Rattle.nogood_store.specs.Stored as nogoods
 use Rattle.nogood_store.specs.Stored.{Stored}
+use Rattle.nogood_store.specs.Matching.{Matches}
+use Rattle.nogood_store.proofs.Matched.{new_match, reserved_keeps}
+use Rattle.propagation.specs.Runs.{bare, SameNogoods}
+use Rattle.trail.specs.Assigning.{Trailed}
 use Rattle.atom_pool.specs.declared.instances.Made.{Made}
 use Rattle.atom_pool.specs.Pools.{Pool}
 use Rattle.atom_pool.specs.Meanings.{IsBeside}
@@ -48,7 +52,7 @@ within_more n m le k w = record {
 
 -- a search that has done nothing
 pub ties_fresh : (core : Core) → IsGroundCore core → length core.rules < 2 ^ 32
-    → Ties (record { core = core; nodes = []; noted = 0; pool = record { preds = []; atoms = [] }; made = []; positives = []; choices = []; store = []; places = 0 })
+    → Ties (record { core = core; nodes = []; noted = 0; pool = record { preds = []; atoms = [] }; made = []; positives = []; choices = []; store = []; trail = record { stack = []; atoms = 0; kept = 0; visited = 0; visits = [] } })
 ties_fresh core ground few = record {
   ground = ground;
   few_rules = few;
@@ -63,12 +67,13 @@ ties_fresh core ground few = record {
   choices_there = λ i among. absurd among;
   positives_few = omega arith;
   positives_placed = λ m atoms e. absurd (cc);
+  matches = new_match;
 }
 
 module _ (f : Fields) (ties : Ties f) where
   -- more nogoods are stored
-  pub ties_stored : (store more : List Stored) → store ≡ f.store ++ more → ((s : Stored) → s ∈ more → LitsAreBelow (id_count f) s.lits) → Ties (record f { store = store })
-  ties_stored store more e below = record {
+  pub ties_stored : (store more : List Stored) → store ≡ f.store ++ more → Matches store f.trail → ((s : Stored) → s ∈ more → LitsAreBelow (id_count f) s.lits) → Ties (record f { store = store })
+  ties_stored store more e matches below = record {
     ground = ties.ground;
     few_rules = ties.few_rules;
     few_noted = ties.few_noted;
@@ -82,18 +87,19 @@ module _ (f : Fields) (ties : Ties f) where
     choices_there = ties.choices_there;
     positives_few = ties.positives_few;
     positives_placed = ties.positives_placed;
+    matches = matches;
   }
 
   -- one nogood more is stored
-  pub ties_learned : (store : List Stored) (new : Stored) → store ≡ f.store ++ new ∷ [] → LitsAreBelow (id_count f) new.lits → Ties (record f { store = store })
-  ties_learned store new e below = ties_stored store (new ∷ []) e (λ s i. subst (λ (z : Stored). LitsAreBelow (id_count f) z.lits) (sym (in_single i)) below)
+  pub ties_learned : (store : List Stored) (new : Stored) → store ≡ f.store ++ new ∷ [] → Matches store f.trail → LitsAreBelow (id_count f) new.lits → Ties (record f { store = store })
+  ties_learned store new e matches below = ties_stored store (new ∷ []) e matches (λ s i. subst (λ (z : Stored). LitsAreBelow (id_count f) z.lits) (sym (in_single i)) below)
 
   -- the pools have grown, and there are places for all atoms
-  pub ties_grown : (nodes : List Node) (pool : Pool) (places : ℕ) → length f.nodes ≤ length nodes → ((p : Pred) → p ∈ pool.preds → IsUserPred p) → IsBeside pool (length nodes)
-      → length f.pool.atoms ≤ length pool.atoms → length pool.atoms ≤ places → length pool.atoms < 2 ^ 32
-      → Ties (record f { nodes = nodes; pool = pool; places = places })
-  ties_grown nodes pool places longer users beside more placed few =
-      let g : Fields = record f { nodes = nodes; pool = pool; places = places } in
+  pub ties_grown : (nodes : List Node) (pool : Pool) (trail : Trailed) → trail ≡ record f.trail { atoms = trail.atoms } → length f.nodes ≤ length nodes → ((p : Pred) → p ∈ pool.preds → IsUserPred p) → IsBeside pool (length nodes)
+      → length f.pool.atoms ≤ length pool.atoms → length pool.atoms ≤ trail.atoms → length pool.atoms < 2 ^ 32
+      → Ties (record f { nodes = nodes; pool = pool; trail = trail })
+  ties_grown nodes pool trail roomy longer users beside more placed few =
+      let g : Fields = record f { nodes = nodes; pool = pool; trail = trail } in
       let old = count_is f in
       let new = count_is g in
       let grown : id_count f ≤ id_count g = omega (arith, old, new, more) in
@@ -111,15 +117,16 @@ module _ (f : Fields) (ties : Ties f) where
         choices_there = ties.choices_there;
         positives_few = ties.positives_few;
         positives_placed = λ m atoms e. below_more (id_count f) (id_count g) grown atoms (ties.positives_placed m atoms e);
+        matches = subst (λ (t : Trailed). Matches f.store t) (sym roomy) (reserved_keeps f.store f.trail ties.matches trail.atoms);
       }
 
   -- there is place for more atoms
-  pub ties_roomy : (places : ℕ) → f.places ≤ places → Ties (record f { places = places })
-  ties_roomy places more =
+  pub ties_roomy : (trail : Trailed) → trail ≡ record f.trail { atoms = trail.atoms } → f.trail.atoms ≤ trail.atoms → Ties (record f { trail = trail })
+  ties_roomy trail roomy more =
       let few = ties.few in
       let placed = ties.placed in
       let count = count_is f in
-      ties_grown f.nodes f.pool places (omega arith) ties.users ties.beside (omega arith) (omega (arith, placed, count, more)) (subst (λ n. n < 2 ^ 32) count few)
+      ties_grown f.nodes f.pool trail roomy (omega arith) ties.users ties.beside (omega arith) (omega (arith, placed, count, more)) (subst (λ n. n < 2 ^ 32) count few)
 
   -- one term more is noted
   pub ties_noted : f.noted < length f.nodes → Ties (record f { noted = f.noted + 1 })
@@ -137,6 +144,7 @@ module _ (f : Fields) (ties : Ties f) where
     choices_there = ties.choices_there;
     positives_few = ties.positives_few;
     positives_placed = ties.positives_placed;
+    matches = ties.matches;
   }
 
   -- one rule more was looked at
@@ -159,6 +167,7 @@ module _ (f : Fields) (ties : Ties f) where
       | inl before ↦ ties.positives_placed m xs before
       | inr last ↦ below xs last.1
     ];
+    matches = ties.matches;
   }
 
   -- one instance more is made
@@ -186,6 +195,7 @@ module _ (f : Fields) (ties : Ties f) where
         omega (arith, k, low);
     positives_few = ties.positives_few;
     positives_placed = ties.positives_placed;
+    matches = ties.matches;
   }
 
   -- an instance is noted as a choice
@@ -204,6 +214,7 @@ module _ (f : Fields) (ties : Ties f) where
     choices_there = there body e;
     positives_few = ties.positives_few;
     positives_placed = ties.positives_placed;
+    matches = ties.matches;
   }
     where
       there : (o : Option ℕ) → choices ≡ with_noted f.choices inst o → (i : ℕ) → i ∈ choices → i < length f.made
@@ -213,8 +224,48 @@ module _ (f : Fields) (ties : Ties f) where
         | inr j ↦ subst (λ n. n < length f.made) (sym (in_single j)) low
       ]
 
+  -- the trail has other entries, which still match the store
+  pub ties_trailed : (trail : Trailed) → trail.atoms ≡ f.trail.atoms → Matches f.store trail → Ties (record f { trail = trail })
+  ties_trailed trail atoms matches = record {
+    ground = ties.ground;
+    few_rules = ties.few_rules;
+    few_noted = ties.few_noted;
+    users = ties.users;
+    beside = ties.beside;
+    placed = (let k = ties.placed in omega (arith, k, atoms));
+    few = ties.few;
+    lits_placed = ties.lits_placed;
+    makers = ties.makers;
+    made_placed = ties.made_placed;
+    choices_there = ties.choices_there;
+    positives_few = ties.positives_few;
+    positives_placed = ties.positives_placed;
+    matches = matches;
+  }
+
+  -- watches were moved, and values given
+  pub ties_propagated : (store : List Stored) (trail : Trailed) → SameNogoods f.store store → trail.atoms ≡ f.trail.atoms → Matches store trail → Ties (record f { store = store; trail = trail })
+  ties_propagated store trail same atoms matches = record {
+    ground = ties.ground;
+    few_rules = ties.few_rules;
+    few_noted = ties.few_noted;
+    users = ties.users;
+    beside = ties.beside;
+    placed = (let k = ties.placed in omega (arith, k, atoms));
+    few = ties.few;
+    lits_placed = λ s i.
+        let was = ∈-map_from bare (bare s) f.store (subst (λ bs. bare s ∈ bs) same (∈-map bare s store i)) in
+        subst (LitsAreBelow (id_count f)) (sym (ap (λ (b : List Lit × Option ℕ). b.0) was.2)) (ties.lits_placed was.0 was.1);
+    makers = ties.makers;
+    made_placed = ties.made_placed;
+    choices_there = ties.choices_there;
+    positives_few = ties.positives_few;
+    positives_placed = ties.positives_placed;
+    matches = matches;
+  }
+
   -- the literals of a stored nogood have places
-  pub stored_placed : (n : ℕ) (s : Stored) → slice_get f.store n ≡ Some s → LitsAreBelow f.places s.lits
+  pub stored_placed : (n : ℕ) (s : Stored) → slice_get f.store n ≡ Some s → LitsAreBelow f.trail.atoms s.lits
   stored_placed n s at l i =
       let low = ties.lits_placed s (get_in f.store n s at) l i in
       let placed = ties.placed in

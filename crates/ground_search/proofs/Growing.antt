@@ -93,6 +93,7 @@ module _ (f : Fields) (ties : Ties f) (new : List Node) (grows : Grows f.nodes n
         choices_there = ties.choices_there;
         positives_few = ties.positives_few;
         positives_placed = λ m atoms at. subst (λ n. AreBelow n atoms) same (ties.positives_placed m atoms at);
+        matches = ties.matches;
       }
 
   -- and only the terms changed

@@ -2,11 +2,11 @@ mod Barred
 mod Chosen
 mod Dues
 mod FieldLemmas
-mod Found
+pub mod Found
 mod Going
 mod Growing
 mod Listing
-mod Look
+mod Moving
 mod NameLemmas
 mod Resolves
 mod ViewLemmas

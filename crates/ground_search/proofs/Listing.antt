@@ -27,7 +27,7 @@ use Rattle.atom_pool.specs.Atoms.{pred_of}
 use Rattle.atom_pool.specs.Pools.{Pool, IsAtomPool}
 use Rattle.atom_pool.specs.Meanings.{IsUserAtom, IsBeside, atom_of, atom_from, atom_at}
 use Rattle.answer_printer.proofs.AtomLemmas.{at_node}
-use Rattle.answer_printer.proofs.OrderLemmas.{atom_cmp_total}
+use Rattle.asp_meaning.proofs.AtomOrder.{atom_cmp_total}
 use Rattle.ground_search.specs.Searching.{Searching, ids, name_of, names_of, IsUserPred}
 use Rattle.ground_search.specs.Moves.{IsNamed, NamesAreSmall, AreTrueNames, AreTrueIds}
 use Rattle.ground_search.proofs.Dues.{get_mapped}

@@ -13,7 +13,7 @@ use Rattle.core_meaning.specs.Terms.{eval}
 use Rattle.term_pool.specs.Nodes.{value_at, KeepsValues}
 use Rattle.term_eval.specs.Evaluation.{Outcome, Is, Undefined, Overflow, TooLarge, met}
 use Rattle.term_eval.specs.Evals.{values_by}
-use Rattle.term_eval.proofs.Meeting.{has_value, too_large, met_without}
+use Rattle.term_eval.proofs.MetLemmas.{has_value, too_large, met_without}
 use Rattle.ground_search.specs.Resolving.{IsPlainTerm, AreIdsOf, IsOneTooLarge}
 
 -- the ids are those of the values of these terms

@@ -6,12 +6,13 @@ use Rattle.search_values.specs.Values.{lit}
 use Rattle.search_values.specs.Nogoods.{Nogood}
 use Rattle.nogood_store.specs.Stored as store
 use Rattle.nogood_store.specs.Stored.{Stored, HasNoAtomTwice, IsHeadOf, atom_of}
+use Rattle.nogood_store.specs.Watched.{first_watches}
 use Rattle.ground_search.specs.Searching.{LitsAreBelow}
 use Rattle.ground_search.specs.declared.draft.Draft.{Draft}
 
 -- what is stored
 abbrev pub stored_of : Draft → Stored
-stored_of d = record { lits = d.lits.items; head = d.head }
+stored_of d = record { lits = d.lits.items; head = d.head; watches = first_watches d.lits.items }
 
 -- the nogood of the theory
 abbrev pub nogood_of : Draft → Nogood

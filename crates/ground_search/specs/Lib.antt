@@ -1,5 +1,4 @@
 pub mod Searching
-pub mod Visits
 pub mod Moves
 pub mod Resolving
 pub mod Drafts

@@ -1,10 +1,12 @@
 -- What a search finds when it looks at its state.
-use Rattle.std.specs.Prelude.{◌≡◌, ℕ, ◌<◌, ◌≤◌, true, List, [], map, Some, slice_get}
+use Rattle.std.specs.Prelude.{◌≡◌, ℕ, ◌<◌, ◌≤◌, true, List, [], map, Option, Some, option_map, slice_get}
 use Rattle.lists.specs.Lists.{◌∈◌, Each, HasNoRepeats}
+use Rattle.alpha_outside.specs.Outside.{Journal}
+use Rattle.alpha_outside.specs.declared.event.Event.{Event}
 use Rattle.alpha_outside.specs.declared.literal.Value.TheVariants.{True}
 use Rattle.search_values.specs.declared.entry.Entry.{Entry}
 use Rattle.search_values.specs.Values.{value_of, lit, Holds}
-use Rattle.search_values.specs.Nogoods.{Nogood, IsStruck, Gives, NoneStruck, NoneUnit}
+use Rattle.search_values.specs.Nogoods.{Nogood, IsStruck, NoneStruck, NoneUnit}
 use Rattle.search_values.specs.Tables.{Made}
 use Rattle.search_values.specs.Ids.{Names}
 use Rattle.search_theory.specs.States.{IsName, IsMade, IsActive}
@@ -15,15 +17,33 @@ use Rattle.core_meaning.specs.Atoms.{GroundAtom, User}
 use Rattle.term_pool.specs.Nodes.{most_symbols, value_size}
 use Rattle.search_rules.specs.Tests.{Maker}
 use Rattle.search_rules.specs.Rules.{search_rules}
-use Rattle.ground_search.specs.Searching.{Searching, ids, state_of}
-use Rattle.ground_search.specs.declared.finding.Finding.{Finding}
-use Rattle.ground_search.specs.declared.finding.Finding.TheVariants as finding
+use Rattle.ground_search.specs.Searching.{Searching, ids, state_of, LitsAreBelow}
+use Rattle.propagation.specs.Runs.{Puts, with_events}
+use Rattle.propagation.specs.declared.fixpoint.Fix.{Fix}
+use Rattle.propagation.specs.declared.fixpoint.Fix.TheVariants.{Quiet, Struck}
 
--- what going through all nogoods finds
-abbrev pub FoundIs : Searching → Finding → Type 0
-FoundIs v finding.Quiet = NoneStruck v.stack v.nogoods × NoneUnit v.stack v.nogoods
-FoundIs v (finding.Unit n a value) = (a < ids v) × ((ng : Nogood) × (slice_get v.nogoods n ≡ Some ng) × Gives v.stack ng a value)
-FoundIs v (finding.Struck n) = (ng : Nogood) × (slice_get v.nogoods n ≡ Some ng) × IsStruck v.stack ng
+-- values that unit nogoods give were put on the stack, one after another, and each was noted before the next
+pub record HasPropagated (v v' : Searching) (told told' : Option Journal) : Type 0 where
+  pub events : List Event
+  pub puts : Puts v.nogoods v.stack events v'.stack
+  pub is : v' ≡ record v { stack = v'.stack }
+  pub tells : told' ≡ option_map (with_events events) told
+
+-- such values were noted, before a fault
+pub record HasNoted (v : Searching) (told told' : Option Journal) : Type 0 where
+  pub events : List Event
+  pub stack : List Entry
+  pub puts : Puts v.nogoods v.stack events stack
+  pub tells : told' ≡ option_map (with_events events) told
+
+-- how a propagation ends: nothing is struck or unit, or this nogood is struck
+abbrev pub FixIs : Searching → Fix → Type 0
+FixIs v Quiet = NoneStruck v.stack v.nogoods × NoneUnit v.stack v.nogoods
+FixIs v (Struck n) = (ng : Nogood) × (slice_get v.nogoods n ≡ Some ng) × IsStruck v.stack ng
+
+-- the atoms of all nogoods have ids
+abbrev pub NogoodsArePlaced : Searching → Type 0
+NogoodsArePlaced v = (ng : Nogood) → ng ∈ v.nogoods → LitsAreBelow (ids v) ng.lits
 
 -- these atoms are true or must-be-true
 abbrev pub AreUp : List Entry → List ℕ → Type 0

@@ -24,6 +24,8 @@ use Rattle.search_theory.specs.States as theory
 use Rattle.search_values.specs.Ids.{AtomNode, Named, BodyOf}
 use Rattle.search_theory.specs.Events.{Event}
 use Rattle.nogood_store.specs.Stored.{Stored, nogood_of}
+use Rattle.nogood_store.specs.Matching.{Matches}
+use Rattle.trail.specs.Assigning.{Trailed}
 use Rattle.term_pool.specs.Nodes.{value_at}
 use Rattle.atom_pool.specs.declared.atom.AtomNode as arena
 use Rattle.atom_pool.specs.declared.atom.AtomNode.TheVariants as node
@@ -155,7 +157,7 @@ pub record IsWithin (n : ℕ) (k : Made) : Type 0 where
 abbrev pub IsUserPred : Pred → Type 0
 IsUserPred p = (negated : Bool) × (name : List ℕ) × (arity : ℕ) × (p ≡ pred.User negated name arity)
 
--- the fields of a search that keep to one another; `places` is how many atoms have a place on the trail
+-- the fields of a search that keep to one another
 pub record Fields : Type 0 where
   pub core : Core
   pub nodes : List Node
@@ -165,7 +167,7 @@ pub record Fields : Type 0 where
   pub positives : List (Option (List ℕ))
   pub choices : List ℕ
   pub store : List Stored
-  pub places : ℕ
+  pub trail : Trailed
 
 -- how many ids there are
 abbrev pub id_count : Fields → ℕ
@@ -178,7 +180,7 @@ pub record Ties (f : Fields) : Type 0 where
   pub few_noted : f.noted ≤ length f.nodes
   pub users : (p : Pred) → p ∈ f.pool.preds → IsUserPred p
   pub beside : IsBeside f.pool (length f.nodes)
-  pub placed : id_count f ≤ f.places
+  pub placed : id_count f ≤ f.trail.atoms
   pub few : id_count f < 2 ^ 32
   pub lits_placed : (s : Stored) → s ∈ f.store → LitsAreBelow (id_count f) s.lits
   pub makers : (k : Made) → k ∈ f.made → (r : ℕ) × (k.maker ≡ say.Rule r [])
@@ -186,6 +188,7 @@ pub record Ties (f : Fields) : Type 0 where
   pub choices_there : AreThere f.made f.choices
   pub positives_few : length f.positives ≤ length f.core.rules
   pub positives_placed : (m : ℕ) (atoms : List ℕ) → slice_get f.positives m ≡ Some (Some atoms) → AreBelow (id_count f) atoms
+  pub matches : Matches f.store f.trail
 
 -- ---- the steps
 

@@ -27,6 +27,7 @@ use alpha_outside::{
 };
 use atom_pool::AtomNode;
 use core_rules::{CoreAtom, CoreTerm};
+use propagation::admit;
 use std::alloc::Global;
 use term_eval::has_value;
 use term_pool::TermPool;
@@ -291,7 +292,7 @@ impl Search {
         ensures ok { OnOk result (self.new ≡ with_justified self.old (justified_lits found.now.atom found.now.falses)) }
     {
         let lits = lits_for(self.alloc, found)?;
-        let nogood = self.nogoods.add(lits.as_slice(), None)?;
+        let nogood = admit(&mut self.nogoods, &self.trail, lits.as_slice(), None)?;
         self.tried = found.atom.0.saturating_add(1);
         Ok((nogood, lits))
     }

@@ -1,5 +1,5 @@
-//! What a search looks for: a nogood that is unit or struck, an instance that is due, a body that is active, and named atoms
-//! that are must-be-true, unassigned or true.
+//! What a search looks for: an instance that is due, a body that is active, and named atoms that are must-be-true, unassigned
+//! or true.
 
 ghost use Rattle.std.specs.Prelude.{◌≡◌, ◌<◌, ◌++◌, ◌∷◌, ℕ, List, Option, None, Some, true, false, map, slice_get, IfSome, IfNone, IfOk};
 ghost use Rattle.lists.specs.Lists.{◌∈◌, Each};
@@ -16,25 +16,13 @@ ghost use Rattle.search_values.specs.Tables.{Made};
 ghost use Rattle.trail.specs.Assigning.{IsStackOf};
 ghost use Rattle.search_rules.specs.Tests.{Maker as Rule};
 ghost use Rattle.ground_search.specs.Searching.{ids, state_of, jump_of, adds_choice};
-ghost use Rattle.ground_search.specs.Moves.{FoundIs, AreUp, IsDue, IsRuleMade, NothingIsDue, NamesAreSmall, NoChoice, IsNamed, AreTrueNames, AreTrueIds};
+ghost use Rattle.ground_search.specs.Moves.{AreUp, IsDue, IsRuleMade, NothingIsDue, NamesAreSmall, NoChoice, IsNamed, AreTrueNames, AreTrueIds};
 
 use crate::search::Search;
-use crate::visit::{Visit, look_at};
-use alpha_outside::{AtomId, List, Lit, Maker, NogoodId, OutOfMemory, Value};
+use alpha_outside::{AtomId, List, Lit, Maker, OutOfMemory, Value};
 use answer_printer::{set_line, sorted_atoms};
 use search_values::{Entry, Why};
 use trail::Trail;
-
-/// What going through all nogoods finds.
-#[derive(Clone, Copy, Debug, PartialEq, Eq)]
-pub enum Finding {
-    /// Nothing is unit or struck.
-    Quiet,
-    /// The nogood is unit, and gives the atom the value.
-    Unit(NogoodId, AtomId, Value),
-    /// All literals of the nogood hold.
-    Struck(NogoodId),
-}
 
 // Whether it is true or must-be-true.
 fn is_up(value: Option<Value>) -> bool
@@ -94,21 +82,6 @@ fn is_choice(trail: &Trail, entry: &Entry) -> bool
 }
 
 impl Search {
-    /// A nogood that is unit or struck. It looks at those alone that together say all that is stored.
-    pub fn find(&self) -> Finding
-        ensures { FoundIs self.now result }
-    {
-        let enough = self.nogoods.enough();
-        for id in enough {
-            match look_at(&self.trail, self.nogoods.lits(*id), self.nogoods.head(*id)) {
-                Visit::Idle => (),
-                Visit::Unit(atom, value) => return Finding::Unit(*id, atom, value),
-                Visit::Struck => return Finding::Struck(*id),
-            }
-        }
-        Finding::Quiet
-    }
-
     /// The first rule whose instance isn't made, and whose positive atoms are true or must-be-true.
     pub fn due(&self) -> Option<u32>
         ensures some { IfSome result (IsDue self.now) }

@@ -9,12 +9,10 @@ mod draft;
 mod finding;
 mod making;
 mod naming;
+mod propagating;
 mod resolving;
 mod search;
-mod visit;
 
 pub use covering::Underivable;
-pub use finding::Finding;
 pub use resolving::{Part, Resolved};
 pub use search::{Search, Stage};
-pub use visit::{Visit, look_at};

@@ -3,6 +3,7 @@
 ghost use Rattle.std.specs.Prelude.{◌≡◌, ◌<◌, ◌++◌, [], ℕ, List, None, Some, map, take, length, slice_get, OnOk, IfOk};
 ghost use Rattle.lists.specs.Lists.{Each};
 ghost use Rattle.core_rules.specs.declared.rules.CoreRule.{CoreRule as Rule};
+ghost use Rattle.nogood_store.specs.Matching.{Matches};
 ghost use Rattle.ground_search.specs.Searching.{Searching, ids, AreBelow, kind_of, with_instance};
 ghost use Rattle.ground_search.specs.Moves.{IsRuleMade};
 ghost use Rattle.ground_search.specs.Drafts.{IsStorable, stored_of};
@@ -12,15 +13,19 @@ use crate::search::Search;
 use alpha_outside::{AtomId, List, Maker, OutOfMemory};
 use atom_pool::Made;
 use nogood_store::NogoodStore;
+use propagation::admit;
+use trail::Trail;
 
 // Stores nogoods, one after another.
-fn store_all(nogoods: &mut NogoodStore, drafts: &[Draft]) -> Result<(), OutOfMemory>
-    requires { Each IsStorable drafts.now }
+fn store_all(nogoods: &mut NogoodStore, trail: &Trail, drafts: &[Draft]) -> Result<(), OutOfMemory>
+    requires storable { Each IsStorable drafts.now }
+    requires matches { Matches nogoods.old trail.now }
     ensures all { OnOk result (nogoods.new ≡ nogoods.old ++ map stored_of drafts.now) }
     ensures some { (k : ℕ) × (nogoods.new ≡ nogoods.old ++ map stored_of (take k drafts.now)) }
+    ensures matches { Matches nogoods.new trail.now }
 {
     for draft in drafts {
-        nogoods.add(draft.lits.as_slice(), draft.head)?;
+        admit(nogoods, trail, draft.lits.as_slice(), draft.head)?;
     }
     Ok(())
 }
@@ -81,7 +86,7 @@ impl Search {
     {
         let made = self.instance(rule, head, neg, body)?;
         let drafts = nogoods_of(self.alloc, &made)?;
-        store_all(&mut self.nogoods, drafts.as_slice())?;
+        store_all(&mut self.nogoods, &self.trail, drafts.as_slice())?;
         let inst = self.ground.instances.add(made)?;
         self.choices.note_instance(inst, &self.ground.instances)
     }

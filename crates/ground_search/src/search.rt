@@ -7,7 +7,8 @@ ghost use Rattle.search_values.specs.declared.entry.Why.TheVariants.{Given, Chos
 ghost use Rattle.search_values.specs.Values.{value_of, level_of, back_to, all_at_0, decision};
 ghost use Rattle.search_theory.specs.Events.{phase_struck, phase_learned, lits_at};
 ghost use Rattle.search_theory.specs.States as phase;
-ghost use Rattle.nogood_store.specs.Stored.{HasNoAtomTwice};
+ghost use Rattle.nogood_store.specs.Stored.{Stored, HasNoAtomTwice};
+ghost use Rattle.nogood_store.specs.Matching.{Matches};
 ghost use Rattle.trail.specs.Assigning.{MayBecome, MayDecide};
 ghost use Rattle.search_rules.specs.Stage.{IsGroundCore};
 ghost use Rattle.ground_search.specs.Searching.{ids, assigned, phase_of, LitsAreBelow, is_empty, is_level_0, fresh};
@@ -17,6 +18,7 @@ use atom_pool::{AtomPool, Ground, Instances};
 use choice_manager::Choices;
 use core_rules::Core;
 use nogood_store::NogoodStore;
+use propagation::{admit, give};
 use std::alloc::Global;
 use std::marker::Model;
 use term_pool::TermPool;
@@ -73,7 +75,7 @@ impl Model for Search {
 
     ghost view = { λ s. searching s.core s.ground.terms s.noted s.ground.atoms s.ground.instances s.positives.items s.choices s.nogoods s.trail.stack s.closing s.stage };
 
-    ghost invariant = { λ s. Ties (record { core = s.core; nodes = s.ground.terms; noted = s.noted; pool = s.ground.atoms; made = s.ground.instances; positives = s.positives.items; choices = s.choices; store = s.nogoods; places = s.trail.atoms }) };
+    ghost invariant = { λ s. Ties (record { core = s.core; nodes = s.ground.terms; noted = s.noted; pool = s.ground.atoms; made = s.ground.instances; positives = s.positives.items; choices = s.choices; store = s.nogoods; trail = s.trail }) };
 }
 
 impl Search {
@@ -120,11 +122,9 @@ impl Search {
         ensures assigned { self.new ≡ assigned self.old atom value (Given by) }
         ensures ids_fit { ids self.old < 2 ^ 32 }
     {
-        match value {
-            Value::True => self.trail.set_true(atom, by),
-            Value::MustBe => self.trail.set_mbt(atom, by),
-            Value::False => self.trail.set_false(atom, by),
-        }
+        // With the number of entries that were taken up comes that there are so many.
+        let _ = self.trail.kept();
+        give(&mut self.trail, atom, value, by);
     }
 
     /// Decides that the body holds.
@@ -134,7 +134,7 @@ impl Search {
         ensures assigned { self.new ≡ record (assigned self.old body (decision true) Chosen) { closing = false } }
         ensures ids_fit { ids self.old < 2 ^ 32 }
     {
-        self.trail.mark(self.nogoods.len());
+        take_all_up(&mut self.trail);
         self.trail.decide(body, true);
         self.tried = self.ground.atoms.len();
         self.closing = false;
@@ -147,7 +147,7 @@ impl Search {
         ensures assigned { self.new ≡ record (assigned self.old atom False (Closed None)) { closing = true } }
         ensures ids_fit { ids self.old < 2 ^ 32 }
     {
-        self.trail.mark(self.nogoods.len());
+        take_all_up(&mut self.trail);
         self.trail.close(atom);
         self.closing = true;
     }
@@ -157,6 +157,8 @@ impl Search {
         requires { level < level_of self.old.stack }
         ensures { self.new ≡ record self.old { stack = back_to level self.old.stack; closing = false; phase = phase.Free } }
     {
+        // With the number of entries that were taken up comes that there are so many.
+        let _ = self.trail.kept();
         self.trail.backjump(level);
         self.closing = false;
         self.stage = Stage::Free;
@@ -177,7 +179,7 @@ impl Search {
         ensures ok { OnOk result (self.new ≡ record self.old { nogoods = self.old.nogoods ++ record { lits = lits.now; head = None } ∷ []; phase = phase_learned self.old.phase (length self.old.nogoods) lits.now }) }
         ensures ids_fit { ids self.old < 2 ^ 32 }
     {
-        let nogood = self.nogoods.add(lits, None)?;
+        let nogood = admit(&mut self.nogoods, &self.trail, lits, None)?;
         self.stage = stage_learned(self.stage, nogood, lits.is_empty());
         Ok(nogood)
     }
@@ -189,6 +191,18 @@ impl Search {
     {
         let root = are_at_0(&self.trail, self.nogoods.lits(nogood));
         self.stage = stage_struck(self.stage, root);
+    }
+}
+
+// Marks all entries as taken up, so that a level may be opened. After a propagation they are; where they aren't, all nogoods are
+// to be visited again.
+fn take_all_up(trail: &mut Trail)
+    ensures all { trail.new.kept ≡ length trail.new.stack }
+    ensures same { trail.new ≡ record trail.old { kept = trail.new.kept; visited = trail.new.visited } }
+    ensures matches { (store : List Stored) → Matches store trail.old → Matches store trail.new }
+{
+    if trail.kept() as usize != trail.entries().len() {
+        trail.mark(0);
     }
 }
 

@@ -1,112 +1,125 @@
-ghost use Rattle.std.specs.Prelude.{◌≡◌, ◌<◌, ◌≤◌, ◌-◌, ◌^◌, ℕ, List, [], ◌∷◌, ◌++◌, length, drop, slice_get, None, Some, IsTrue, IfOk, OnOk, OnErr};
-ghost use Rattle.lists.specs.Lists.{◌∈◌, ◌⊆◌};
-ghost use Rattle.nogood_store.specs.Stored.{Stored, HasNoAtomTwice, IsHeadOf, AreEnough, IsSaid};
+//! The nogoods in the order in which they came, which of them watch each literal, and the visit of one.
+//!
+//! A visit tells what the nogood says on a trail, and moves its watches so that they suffice once that is carried out. It is one step. It looks
+//! at the nogood's literals from the first on, a few times each at most, and changes at most two lists; taking an id out of a list looks for it
+//! from the list's end. A visit that wants memory changes nothing. Going back moves no watch: what suffices on a stack was asked of each lower part of it
+//! before.
+//!
+//! Source: watched literals are those of Moskewicz and others, "Chaff: Engineering an Efficient SAT Solver" (DAC 2001); a third for the head those
+//! of Weinzierl, "Blending Lazy-Grounding and CDNL Search for Answer-Set Solving" (LPNMR 2017).
 
+ghost use Rattle.std.specs.Prelude.{◌≡◌, ◌<◌, ◌+◌, ◌-◌, ◌^◌, ◌↔◌, ℕ, List, [], ◌∷◌, ◌++◌, length, slice_get, None, Some, IfOk, OnOk, OnErr};
+ghost use Rattle.lists.specs.Lists.{◌∈◌, HasNoRepeats};
+ghost use Rattle.nogood_store.specs.Stored.{Stored, HasNoAtomTwice, IsHeadOf, LitsAreBelow, nogood_of, head_atom};
+ghost use Rattle.nogood_store.specs.Visits.{VisitIs, IsPlaced, AnswerIs};
+ghost use Rattle.nogood_store.specs.Watched.{first_watches, Watching, watch_count, AreListed, AreMoved, AreWatches};
+ghost use Rattle.nogood_store.specs.Matching.{Visited, Matches};
+ghost use Rattle.trail.specs.Assigning.{IsStackOf};
+
+use crate::looking::{Says, Visit, atom_of_head, look_at};
 use crate::nogood::Nogood;
-use alpha_outside::{Lit, NogoodId, OutOfMemory};
+use crate::seeking::rewatch;
+use crate::steps::Steps;
+use crate::watch_lists::WatchLists;
+use crate::watching::Watches;
+use alpha_outside::{AtomId, Lit, NogoodId, OutOfMemory};
 use std::alloc::Global;
 use std::marker::Model;
+use std::sync::ledger::Ledger;
+use trail::Trail;
 
-/// The nogoods in the order in which they came.
+/// The nogoods in the order in which they came, and which of them watch each literal.
 #[derive(Drop)]
 pub struct NogoodStore {
     nogoods: Vec<Nogood>,
-    /// Those that together say all that is stored: one without a head goes out where a later one without a head has its last literals.
-    enough: Vec<NogoodId>,
+    lists: WatchLists,
 }
 
 impl Model for NogoodStore {
     ghost use Rattle.std.specs.Prelude.{List, length, ◌<◌, ◌^◌};
-    ghost use Rattle.nogood_store.specs.Stored.{Stored, AreEnough};
+    ghost use Rattle.nogood_store.specs.Stored.{Stored};
+    ghost use Rattle.nogood_store.specs.Watched.{AreListed};
 
     ghost Value = { List Stored };
 
     ghost view = { λ s. s.nogoods.items };
 
-    ghost invariant = { λ s. (length s.nogoods.items < 2 ^ 32) × AreEnough s.nogoods.items s.enough.items };
+    ghost invariant = { λ s. (length s.nogoods.items < 2 ^ 32) × AreListed s.lists s.nogoods.items };
 }
 
-// Whether these literals are the last of the others.
-fn are_last(lits: &[Lit], others: &[Lit]) -> bool
-    ensures { IsTrue result → lits.now ⊆ others.now }
+// The place of the literal of this atom.
+fn place_of(lits: &[Lit], atom: AtomId) -> u32
+    requires few { length lits.now < 2 ^ 32 }
+    requires there { (l : Lit) × (l ∈ lits.now) × (l.atom ≡ atom) }
+    ensures { (l : Lit) × (slice_get lits.now result ≡ Some l) × (l.atom ≡ atom) }
 {
-    match others.len().checked_sub(lits.len()) {
-        Some(from) => &others[from..] == lits,
-        None => false,
-    }
-}
-
-// Whether the nogood has no head, and has all these literals at its end.
-fn is_said(nogood: &Nogood, lits: &[Lit]) -> bool
-    ensures { IsTrue result → (nogood.now.head ≡ None) × (lits.now ⊆ nogood.now.lits) }
-{
-    nogood.head().is_none() && are_last(lits, nogood.lits())
-}
-
-// How many of the ids stay, from the front, where a nogood of these literals and without a head comes: those behind are of nogoods without
-// a head that have all its literals.
-fn staying(nogoods: &Vec<Nogood>, ids: &[NogoodId], lits: &[Lit]) -> usize
-    requires there { (n : ℕ) → n ∈ ids.now → n < length nogoods.now.items }
-    ensures within { result ≤ length ids.now }
-    ensures behind { (n : ℕ) → n ∈ drop result ids.now → IsSaid nogoods.now.items lits.now n }
-{
-    let mut stay = ids.len();
-    while stay > 0 {
-        if !is_said(&nogoods[ids[stay - 1].place()], lits) {
-            return stay;
+    let mut place = 0;
+    while place < lits.len() {
+        if lits[place].atom == atom {
+            return place as u32;
         }
-        stay -= 1;
+        place += 1;
     }
-    stay
+    0
 }
 
-// The same, also where it has a head: then all stay.
-fn staying_beside(nogoods: &Vec<Nogood>, ids: &[NogoodId], lits: &[Lit], head: Option<u32>) -> usize
-    requires there { (n : ℕ) → n ∈ ids.now → n < length nogoods.now.items }
-    ensures within { result ≤ length ids.now }
-    ensures behind { (n : ℕ) → n ∈ drop result ids.now → (head ≡ None) × IsSaid nogoods.now.items lits.now n }
+// What a visit answers, by what the nogood says.
+fn answer(lits: &[Lit], says: Says) -> Visit
+    requires few { length lits.now < 2 ^ 32 }
+    requires there { IsPlaced lits.now says }
+    ensures { AnswerIs lits.now says result }
 {
-    match head {
-        None => staying(nogoods, ids, lits),
-        Some(_) => ids.len(),
+    match says {
+        Says::Nothing => Visit::Idle,
+        Says::Follows(atom, value) => Visit::Unit {
+            lit: place_of(lits, atom),
+            value,
+        },
+        Says::Conflict => Visit::Struck,
     }
 }
 
-// Puts the id of the newest nogood, of these literals, into those that are enough.
-fn put_newest(
-    nogoods: &Vec<Nogood>,
-    enough: &mut Vec<NogoodId>,
-    lits: &[Lit],
-    head: Option<u32>,
-) -> Result<(), OutOfMemory>
-    requires newest { (stored : List Stored) × (nogoods.now.items ≡ stored ++ (record { lits = lits.now; head = head }) ∷ []) × AreEnough stored enough.old.items }
-    requires few { length nogoods.now.items < 2 ^ 32 }
-    ensures ok { OnOk result (AreEnough nogoods.now.items enough.new.items) }
-    ensures err { OnErr result (enough.new.items ≡ enough.old.items) }
+// What the nogood says on the trail.
+fn visit_answer(nogood: &Nogood, trail: &Trail) -> Visit
+    requires below { LitsAreBelow trail.now.atoms nogood.now.lits }
+    ensures exact { VisitIs trail.now.stack nogood.now result }
 {
-    let stay = staying_beside(nogoods, enough.as_slice(), lits, head);
-    enough.reserve(1)?;
-    enough.truncate(stay);
-    enough.push_reserved(NogoodId((nogoods.len() - 1) as u32));
-    Ok(())
+    let lits = nogood.lits();
+    answer(lits, look_at(trail, lits, nogood.head()))
 }
 
-// Stores a nogood and its id; or nothing, where memory is wanting.
+// What a visit makes of the nogood's watches.
+fn visit_watches(nogood: &Nogood, trail: &Trail) -> Watches
+    requires below { LitsAreBelow trail.now.atoms nogood.now.lits }
+    ensures moved { AreMoved trail.now.stack nogood.now.lits (head_atom nogood.now.lits nogood.now.head) nogood.now.watches result }
+    ensures before { AreWatches nogood.now.lits (head_atom nogood.now.lits nogood.now.head) nogood.now.watches }
+    ensures no_atom_twice { HasNoAtomTwice nogood.now.lits }
+    ensures negative { IsHeadOf nogood.now.lits nogood.now.head }
+{
+    let lits = nogood.lits();
+    rewatch(
+        trail,
+        lits,
+        atom_of_head(lits, nogood.head()),
+        &nogood.watches(),
+    )
+}
+
+// Stores a nogood; or nothing, where memory is wanting.
 fn store(
     nogoods: &mut Vec<Nogood>,
-    enough: &mut Vec<NogoodId>,
+    lists: &mut WatchLists,
     nogood: Nogood,
-    lits: &[Lit],
-    head: Option<u32>,
 ) -> Result<(), OutOfMemory>
-    requires is { nogood ≡ record { lits = lits.now; head = head } }
     requires few { length nogoods.old.items < 2 ^ 32 - 1 }
-    requires enough { AreEnough nogoods.old.items enough.old.items }
-    ensures ok { OnOk result ((nogoods.new.items ≡ nogoods.old.items ++ nogood ∷ []) × AreEnough nogoods.new.items enough.new.items) }
-    ensures err { OnErr result ((nogoods.new.items ≡ nogoods.old.items) × (enough.new.items ≡ enough.old.items)) }
+    requires listed { AreListed lists.old nogoods.old.items }
+    ensures ok { OnOk result ((nogoods.new.items ≡ nogoods.old.items ++ nogood ∷ []) × AreListed lists.new nogoods.new.items) }
+    ensures err { OnErr result ((nogoods.new.items ≡ nogoods.old.items) × AreListed lists.new nogoods.new.items) }
 {
+    let id = NogoodId(nogoods.len() as u32);
+    let to = nogood.watches();
     match nogoods.push(nogood) {
-        Ok(()) => match put_newest(&*nogoods, enough, lits, head) {
+        Ok(()) => match lists.change(id, &Watches::none(), &to) {
             Ok(()) => Ok(()),
             Err(fault) => {
                 let _ = nogoods.pop();
@@ -124,7 +137,7 @@ impl NogoodStore {
     {
         NogoodStore {
             nogoods: Vec::new(alloc),
-            enough: Vec::new(alloc),
+            lists: WatchLists::new(alloc),
         }
     }
 
@@ -133,7 +146,7 @@ impl NogoodStore {
         requires no_atom_twice { HasNoAtomTwice lits.now }
         requires negative { IsHeadOf lits.now head }
         ensures id { IfOk result (λ id. id ≡ length self.old) }
-        ensures ok { IfOk result (λ id. self.new ≡ self.old ++ (record { lits = lits.now; head = head }) ∷ []) }
+        ensures ok { IfOk result (λ id. self.new ≡ self.old ++ (record { lits = lits.now; head = head; watches = first_watches lits.now }) ∷ []) }
         ensures err { OnErr result (self.new ≡ self.old) }
     {
         let stored = self.nogoods.len();
@@ -141,19 +154,12 @@ impl NogoodStore {
             return Err(OutOfMemory);
         }
         match Nogood::new(*self.nogoods.allocator(), lits, head) {
-            Ok(nogood) => match store(&mut self.nogoods, &mut self.enough, nogood, lits, head) {
+            Ok(nogood) => match store(&mut self.nogoods, &mut self.lists, nogood) {
                 Ok(()) => Ok(NogoodId(stored as u32)),
                 Err(fault) => Err(fault),
             },
             Err(fault) => Err(fault),
         }
-    }
-
-    /// The ids of nogoods that together say all that is stored: each other one has all literals of one of these, and neither has a head.
-    pub fn enough(&self) -> &[NogoodId]
-        ensures { AreEnough self.now result.now }
-    {
-        self.enough.as_slice()
     }
 
     pub fn lits(&self, id: NogoodId) -> &[Lit]
@@ -177,5 +183,46 @@ impl NogoodStore {
         ensures { result ≡ length self.now }
     {
         self.nogoods.len() as u32
+    }
+
+    /// The nogoods that watch the literal, each once.
+    pub fn watchers(&self, lit: Lit) -> &[NogoodId]
+        ensures exact { (n : ℕ) → (n ∈ result.now) ↔ Watching self.now lit n }
+        ensures once { HasNoRepeats result.now }
+        ensures count { length result.now ≡ watch_count self.now lit }
+    {
+        let _ = &self.nogoods;
+        self.lists.of(&lit)
+    }
+
+    /// What the nogood says on the trail. It moves watches of this nogood where it must, so that they suffice once the answer is carried out.
+    pub fn visit<L: Ledger>(
+        &mut self,
+        id: NogoodId,
+        trail: &Trail,
+        steps: &mut Steps<L>,
+    ) -> Result<Visit, OutOfMemory>
+        requires there { id < length self.old }
+        requires below { (s : Stored) → slice_get self.old id ≡ Some s → LitsAreBelow trail.now.atoms s.lits }
+        ensures ok { IfOk result (Visited trail.now.stack self.old self.new id) }
+        ensures err { OnErr result (self.new ≡ self.old) }
+        ensures matches { Matches self.old trail.now → Matches self.new trail.now }
+        ensures one_step { steps.new ≡ steps.old + 1 }
+    {
+        steps.tick();
+        // With the entries comes what the trail promises of itself.
+        let _ = trail.entries();
+        let place = id.place();
+        let nogood = &self.nogoods[place];
+        let answer = visit_answer(nogood, trail);
+        let from = nogood.watches();
+        let to = visit_watches(nogood, trail);
+        match self.lists.change(id, &from, &to) {
+            Ok(()) => {
+                self.nogoods[place].watch(&to);
+                Ok(answer)
+            }
+            Err(fault) => Err(fault),
+        }
     }
 }

@@ -17,8 +17,8 @@ use Rattle.asp_meaning.specs.Terms.{Variable, anonymous}
 use Rattle.asp_meaning.specs.Variables.{variables, variables_step}
 use Rattle.asp_safety.specs.Binding as safety
 use Rattle.asp_safety.specs.Binding.{outside_arithmetic, outside_of, variables_of, literal_variables, term_of, Occurrence, occur, item_occurrences, head_occurrences, occurrences, IsBoundThere, IsSafe}
-use Rattle.choice_rewrite.specs.declared.single.SingleRule.{SingleRule}
-use Rattle.choice_rewrite.specs.SingleRules.{head_of, as_statement}
+use Rattle.single_rules.specs.declared.single.SingleRule.{SingleRule}
+use Rattle.single_rules.specs.SingleRules.{head_of, as_statement}
 use Rattle.core_rules.specs.declared.rules.Test.TheVariants as test
 use Rattle.core_rules.specs.declared.rules.CoreRule.{CoreRule}
 use Rattle.core_rules.specs.Variables as core

@@ -10,8 +10,8 @@ use Rattle.asp_syntax.specs.declared.tree.Atom as syntax
 use Rattle.asp_meaning.specs.Terms.{Variable}
 use Rattle.asp_safety.specs.Binding.{IsSafe, variables_of}
 use Rattle.asp_safety.specs.Binding as safety
-use Rattle.choice_rewrite.specs.declared.single.SingleRule.{SingleRule}
-use Rattle.choice_rewrite.specs.SingleRules.{as_statement}
+use Rattle.single_rules.specs.declared.single.SingleRule.{SingleRule}
+use Rattle.single_rules.specs.SingleRules.{as_statement}
 use Rattle.core_rules.specs.declared.rules.CoreAtom.{CoreAtom}
 use Rattle.core_rules.specs.Variables as core
 use Rattle.core_rules.specs.CoreForm.{IsBound, IsFitting, IsHead, HasNoArithmetic, IsRuleForm, IsBelowTotal}

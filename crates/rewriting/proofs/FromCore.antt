@@ -7,9 +7,9 @@ use Rattle.asp_meaning.specs.Variables.{global_variables}
 use Rattle.asp_meaning.specs.Atoms.{Atom}
 use Rattle.asp_meaning.specs.Programs.{BodyHolds}
 use Rattle.asp_laws.proofs.Globals.{only_global_variables_matter}
-use Rattle.choice_rewrite.specs.declared.single.SingleRule.{SingleRule}
-use Rattle.choice_rewrite.specs.SingleRules.{as_statement}
-use Rattle.choice_rewrite.specs.AnswerSets.{IsSingleInstance, IsMet, LicensesSingly, IsFoundedList, IsSingleAnswerSet}
+use Rattle.single_rules.specs.declared.single.SingleRule.{SingleRule}
+use Rattle.single_rules.specs.SingleRules.{as_statement}
+use Rattle.single_rules.specs.AnswerSets.{IsSingleInstance, IsMet, LicensesSingly, IsFoundedList, IsSingleAnswerSet}
 use Rattle.search_values.specs.Instances.{Instance, IsHead, body_holds, IsFounded}
 use Rattle.search_values.proofs.Basics.{bool_cases}
 use Rattle.core_meaning.specs.Atoms.{GroundAtom, User}

@@ -19,3 +19,4 @@ pub mod Singles
 pub mod Makers
 pub mod ToCore
 pub mod FromCore
+pub mod SplitRules

@@ -11,8 +11,8 @@ use Rattle.asp_syntax.specs.declared.tree.Literal.TheVariants as literal
 use Rattle.asp_syntax.specs.declared.tree.Item.TheVariants as item
 use Rattle.asp_syntax.specs.Trees.{Part, IsAllowed, parts_step, IsWellFormedTerm, IsWellFormedAtom, IsWellFormedLiteral, IsWellFormedItem, IsWellFormedHead}
 use Rattle.asp_meaning.specs.Terms.{Variable}
-use Rattle.choice_rewrite.specs.declared.single.SingleRule.{SingleRule}
-use Rattle.choice_rewrite.specs.SingleRules.{head_of, IsWellFormedRule}
+use Rattle.single_rules.specs.declared.single.SingleRule.{SingleRule}
+use Rattle.single_rules.specs.SingleRules.{head_of, IsWellFormedRule}
 use Rattle.core_rules.specs.Variables.{test_terms}
 use Rattle.core_rules.specs.Names.{IsNamedTerm, IsNamedAtom, IsNamedHead, IsNamedRule}
 use Rattle.rewriting.specs.Parts.{Comparison, positives, comparisons}

@@ -11,7 +11,7 @@ use Rattle.asp_meaning.specs.Variables.{variables}
 use Rattle.asp_meaning.specs.Programs.{HasValue}
 use Rattle.asp_laws.proofs.Lines.{equal_is_the_same}
 use Rattle.asp_safety.specs.Binding.{variables_of}
-use Rattle.choice_rewrite.specs.declared.single.SingleRule.{SingleRule}
+use Rattle.single_rules.specs.declared.single.SingleRule.{SingleRule}
 use Rattle.search_values.specs.Instances.{Instance}
 use Rattle.core_meaning.specs.Terms.{Binding}
 use Rattle.core_meaning.specs.Atoms.{GroundAtom}

@@ -13,9 +13,9 @@ use Rattle.asp_meaning.specs.Bodies.{Extends}
 use Rattle.asp_meaning.specs.Programs.{HasValue, IsInstance, BodyHolds, ItemRests, HeadGives, HeadIsMet}
 use Rattle.asp_laws.proofs.Globals.{eval_same, only_global_variables_matter}
 use Rattle.asp_safety.specs.Binding.{variables_of}
-use Rattle.choice_rewrite.specs.declared.single.SingleRule.{SingleRule}
-use Rattle.choice_rewrite.specs.SingleRules.{head_of, as_statement}
-use Rattle.choice_rewrite.specs.AnswerSets.{IsMet}
+use Rattle.single_rules.specs.declared.single.SingleRule.{SingleRule}
+use Rattle.single_rules.specs.SingleRules.{head_of, as_statement}
+use Rattle.single_rules.specs.AnswerSets.{IsMet}
 use Rattle.search_values.specs.Instances.{Kind, Plain, Choice, Constraint, Instance, body_holds, IsHead, KindHolds}
 use Rattle.search_values.proofs.Basics.{bool_cases, body_parts, body_from}
 use Rattle.core_meaning.specs.Atoms.{GroundAtom, User}

@@ -7,11 +7,11 @@ use Rattle.lists.proofs.ListLemmas.{Each-at, AtLeastOne-at, ∈-map, ∈-map_fro
 use Rattle.asp_meaning.specs.Variables.{global_variables}
 use Rattle.asp_meaning.specs.Atoms.{Atom}
 use Rattle.asp_meaning.specs.Lines.{atom_cmp}
-use Rattle.asp_laws.proofs.Lines.{atom_cmp_total, atom_same}
+use Rattle.asp_meaning.proofs.AtomOrder.{atom_cmp_total, atom_same}
 use Rattle.asp_laws.proofs.Globals.{only_global_variables_matter}
-use Rattle.choice_rewrite.specs.declared.single.SingleRule.{SingleRule}
-use Rattle.choice_rewrite.specs.SingleRules.{as_statement}
-use Rattle.choice_rewrite.specs.AnswerSets.{LicensesSingly, IsFoundedList, IsSingleAnswerSet}
+use Rattle.single_rules.specs.declared.single.SingleRule.{SingleRule}
+use Rattle.single_rules.specs.SingleRules.{as_statement}
+use Rattle.single_rules.specs.AnswerSets.{LicensesSingly, IsFoundedList, IsSingleAnswerSet}
 use Rattle.search_values.specs.Instances.{Instance, body_holds, KindHolds, IsFounded}
 use Rattle.search_values.proofs.Basics.{or_cases, or_left, or_right, body_parts}
 use Rattle.core_meaning.specs.Atoms.{GroundAtom, User}

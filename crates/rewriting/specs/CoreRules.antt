@@ -3,7 +3,7 @@ use Rattle.std.specs.Prelude.{List, [], map, length}
 use Rattle.core_rules.specs.declared.rules.CoreRule.{CoreRule}
 use Rattle.core_rules.specs.declared.rules.Core.{Core}
 use Rattle.asp_meaning.specs.Terms.{Variable}
-use Rattle.choice_rewrite.specs.declared.single.SingleRule.{SingleRule}
+use Rattle.single_rules.specs.declared.single.SingleRule.{SingleRule}
 use Rattle.rewriting.specs.Lifting.{LiftedRule, lift_rule}
 use Rattle.rewriting.specs.Numbering.{table_of, numbered, numbered_atom, numbered_head, numbered_test}
 

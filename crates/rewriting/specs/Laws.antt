@@ -5,9 +5,9 @@ use Rattle.core_rules.specs.CoreForm.{IsCoreForm}
 use Rattle.core_rules.specs.Names.{IsNamedCore}
 use Rattle.core_meaning.specs.AnswerSets.{HasCoreSets, AreDetermined}
 use Rattle.asp_meaning.specs.Atoms.{Atom}
-use Rattle.choice_rewrite.specs.declared.single.SingleRule.{SingleRule}
-use Rattle.choice_rewrite.specs.SingleRules.{AreSingleRules, IsWellFormedRule}
-use Rattle.choice_rewrite.specs.AnswerSets.{IsSingleAnswerSet}
+use Rattle.single_rules.specs.declared.single.SingleRule.{SingleRule}
+use Rattle.single_rules.specs.SingleRules.{AreSingleRules, IsWellFormedRule}
+use Rattle.single_rules.specs.AnswerSets.{IsSingleAnswerSet}
 use Rattle.rewriting.specs.Parts.{HasNoAggregate}
 use Rattle.rewriting.specs.CoreRules.{core_of}
 

@@ -11,8 +11,8 @@ use Rattle.asp_syntax.specs.declared.tree.Atom as syntax
 use Rattle.asp_meaning.specs.Terms.{Variable, named, anonymous}
 use Rattle.asp_meaning.specs.Variables.{global_variables}
 use Rattle.asp_safety.specs.Binding.{variables_of}
-use Rattle.choice_rewrite.specs.declared.single.SingleRule.{SingleRule}
-use Rattle.choice_rewrite.specs.SingleRules.{as_statement}
+use Rattle.single_rules.specs.declared.single.SingleRule.{SingleRule}
+use Rattle.single_rules.specs.SingleRules.{as_statement}
 use Rattle.rewriting.specs.Parts.{Comparison, positives, negatives, comparisons}
 
 -- the anonymous variable of this number has the term's value

@@ -8,7 +8,7 @@ use Rattle.asp_syntax.specs.declared.tree.Literal.{Literal}
 use Rattle.asp_syntax.specs.declared.tree.Literal.TheVariants as literal
 use Rattle.asp_syntax.specs.declared.tree.Item.{Item}
 use Rattle.asp_syntax.specs.declared.tree.Item.TheVariants as item
-use Rattle.choice_rewrite.specs.declared.single.SingleRule.{SingleRule}
+use Rattle.single_rules.specs.declared.single.SingleRule.{SingleRule}
 
 abbrev pub IsLiteral : Item → Type 0
 IsLiteral (item.Plain l) = Unit {0}

@@ -1,10 +1,11 @@
 -- Two worked examples: a search that chooses, shows both sets and ends by a stuck atom, and one that closes an atom.
-use Rattle.std.specs.Prelude.{◌≡◌, ℕ, zero, suc, ◌+◌, Bool, true, false, ◌&&◌, nat_eq, nat_lt, List, [], ◌∷◌, Option, Some, None}
+use Rattle.std.specs.Prelude.{◌≡◌, ℕ, zero, suc, ◌+◌, Bool, true, false, ◌&&◌, nat_eq, nat_lt, List, [], ◌∷◌, Option, Some, None, length}
 use Rattle.std.proofs.Common.{refl, ap}
 use Rattle.std.proofs.lemmas.Bool.Decides.{Decides-eqb}
 use Rattle.alpha_outside.specs.declared.pred.Pred.TheVariants.{User}
 use Rattle.alpha_outside.specs.declared.maker.Maker.{Maker}
 use Rattle.alpha_outside.specs.declared.maker.Maker.TheVariants as maker
+use Rattle.alpha_outside.specs.declared.pattern.Pattern.{Pattern}
 use Rattle.alpha_outside.specs.declared.event.Event as outside
 use Rattle.alpha_outside.specs.declared.event.Event.TheVariants as say
 use Rattle.alpha_outside.specs.Preds.{pred_eq}
@@ -50,6 +51,7 @@ letters instance_of = record {
   in_line_order = rising;
   names_atom = λ terms pred args a. pred_eq pred (User false ((97 + a) ∷ []) 0);
   names_maker = λ terms maker m. is_rule maker m;
+  fits = λ terms p a. nat_eq (length p.args) 0 && pred_eq p.pred (User false ((97 + a) ∷ []) 0);
   atom_itself = nat_itself;
   atoms_same = nats_same;
   makers_same = λ m n same. ap instance_of (nats_same m n same);

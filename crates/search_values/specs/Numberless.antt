@@ -4,6 +4,7 @@ use Rattle.std.proofs.Common.{true≢false}
 use Rattle.alpha_outside.specs.declared.node.Node.{Node}
 use Rattle.alpha_outside.specs.declared.pred.Pred.{Pred}
 use Rattle.alpha_outside.specs.declared.maker.Maker.{Maker}
+use Rattle.alpha_outside.specs.declared.pattern.Pattern.{Pattern}
 use Rattle.search_values.specs.Instances.{Instance, IsFounded, IsOrdered, Rules}
 
 -- the instance of each maker, and what a journal says of atoms and makers. Only user atoms may be named, since all others are of aggregates
@@ -15,6 +16,7 @@ pub record Ground (A K : Type 0) : Type 0 where
   pub in_line_order : List A → Bool
   pub names_atom : List Node → Pred → List ℕ → A → Bool
   pub names_maker : List Node → Maker → K → Bool
+  pub fits : List Node → Pattern → A → Bool
   pub atom_itself : (a : A) → same_atom a a ≡ true
   pub atoms_same : (a b : A) → same_atom a b ≡ true → a ≡ b
   pub makers_same : (m m' : K) → same_maker m m' ≡ true → instance_of m ≡ instance_of m'
@@ -43,6 +45,7 @@ numberless g = record {
   in_line_order = g.in_line_order;
   names_atom = g.names_atom;
   names_maker = g.names_maker;
+  fits = g.fits;
   uses = λ n m. [];
   atom_itself = g.atom_itself;
   atoms_same = g.atoms_same;
@@ -51,6 +54,7 @@ numberless g = record {
   instance_given = λ n a m i waits made. made;
   named_given = λ n a b waits named. named;
   made_before = λ n n' c m i extends made numbered. made;
+  used_is_in = λ n n' c m i u extends made used waits. absurd used;
   ordered = λ n c answers. (answers.order, answers.all_there, founded_ordered g.instance_of c answers.order answers.founded);
   without = λ n a n' c waits extends answers. absurd (true≢false waits);
 }

@@ -13,16 +13,14 @@ use Rattle.asp_meaning.specs.declared.value.Value.{Value}
 use Rattle.asp_meaning.specs.declared.value.Value.TheOpen.{Value-F}
 use Rattle.asp_meaning.specs.declared.value.Value.TheOpen as layer
 use Rattle.asp_meaning.specs.declared.value.Value.TheVariants as value
-use Rattle.asp_meaning.specs.declared.value.Value.TheViews.{roll-Value}
-use Rattle.asp_meaning.specs.declared.value.Value.TheFolds.{map-Value}
-use Rattle.asp_meaning.specs.Orders.{bytes_cmp, args_cmp, layer_cmp, value_cmp}
+use Rattle.asp_meaning.specs.Orders.{bytes_cmp, args_cmp, value_cmp}
 use Rattle.term_pool.specs.declared.order.NodeOrder.TheVariants.{Known, Parts}
 use Rattle.term_pool.specs.Nodes.{part, value_from, values, value_at, HasArguments, IsPool}
 use Rattle.term_pool.specs.Orders.{IsFirstApart, IsDownTo, IsNodeOrder}
 use Rattle.term_pool.proofs.PlaceLemmas.{length-map}
 use Rattle.term_pool.proofs.PoolLemmas.{length-values, value_here}
 use Rattle.term_pool.proofs.OnceLemmas.{same_part, values_once}
-use Rattle.term_pool.proofs.OrderLemmas.{cmp_roll, cmp-Fun, value_itself, value_same}
+use Rattle.asp_meaning.proofs.ValueOrder.{by_layers, value_itself, value_same}
 
 abbrev rest_of : List ℕ → List ℕ
 rest_of [] = []
@@ -54,7 +52,9 @@ pub cmp_calls : (vs : List Value) (f g : List ℕ) (xs ys : List ℕ) → 0 < le
     ≡ ordering_then (nat_cmp (length xs) (length ys)) (ordering_then (bytes_cmp f g) (args_cmp (map value_cmp (map (part vs) xs)) (map (part vs) ys)))
 cmp_calls vs f g [] ys p q = absurd (omega (arith, p))
 cmp_calls vs f g (x ∷ xs) [] p q = absurd (omega (arith, q))
-cmp_calls vs f g (x ∷ xs) (y ∷ ys) p q = cmp-Fun f g (part vs x) (map (part vs) xs) (part vs y) (map (part vs) ys)
+cmp_calls vs f g (x ∷ xs) (y ∷ ys) p q =
+    by_layers (value.Fun f (part vs x) (map (part vs) xs)) (value.Fun g (part vs y) (map (part vs) ys)) (layer.Fun f (part vs x) (map (part vs) xs)) (layer.Fun g (part vs y) (map (part vs) ys))
+    (value.rolls-Fun f (part vs x) (map (part vs) xs)) (value.rolls-Fun g (part vs y) (map (part vs) ys))
     ∙ ap (λ n. ordering_then n (ordering_then (bytes_cmp f g) (args_cmp (map value_cmp (map (part vs) (x ∷ xs))) (map (part vs) (y ∷ ys))))) sizes
   where
     left : length (map value_cmp (map (part vs) (x ∷ xs))) ≡ length (x ∷ xs)
@@ -101,21 +101,14 @@ by_parts f g xs ys p q l r n e h = record {
   same = λ vs d. by_args f g xs ys l r n e vs ∙ args_apart vs xs ys h.place p q h.before h.left h.right d;
 }
 
--- the order of values by their outermost layers
-pub cmp_of : (v w : Value) (x y : Value-F Value) → roll-Value x ≡ v → roll-Value y ≡ w → value_cmp v w ≡ layer_cmp (map-Value Value (Value → Ordering) value_cmp x) y
-cmp_of v w x y p q = (λ i. value_cmp (sym p i) (sym q i)) ∙ cmp_roll x y
-
-int_value : (m : ℤ) → roll-Value (layer.Int m) ≡ value.Int m
-int_value m = value.rolls-Int m
-
 pub two_ints : (x y : Node) (m n : ℤ) (o : Ordering) → x ≡ node.Int m → y ≡ node.Int n → o ≡ int_cmp m n → IsNodeOrder x y (Known o)
-two_ints x y m n o p q e = λ vs. (λ i. value_cmp (value_from vs (p i)) (value_from vs (q i))) ∙ cmp_of (value.Int m) (value.Int n) (layer.Int m) (layer.Int n) (value.rolls-Int m) (value.rolls-Int n) ∙ sym e
+two_ints x y m n o p q e = λ vs. (λ i. value_cmp (value_from vs (p i)) (value_from vs (q i))) ∙ by_layers (value.Int m) (value.Int n) (layer.Int m) (layer.Int n) (value.rolls-Int m) (value.rolls-Int n) ∙ sym e
 
 pub two_symbols : (x y : Node) (s t : List ℕ) (o : Ordering) → x ≡ node.Symbol s → y ≡ node.Symbol t → o ≡ bytes_cmp s t → IsNodeOrder x y (Known o)
-two_symbols x y s t o p q e = λ vs. (λ i. value_cmp (value_from vs (p i)) (value_from vs (q i))) ∙ cmp_of (value.Symbol s) (value.Symbol t) (layer.Symbol s) (layer.Symbol t) (value.rolls-Symbol s) (value.rolls-Symbol t) ∙ sym e
+two_symbols x y s t o p q e = λ vs. (λ i. value_cmp (value_from vs (p i)) (value_from vs (q i))) ∙ by_layers (value.Symbol s) (value.Symbol t) (layer.Symbol s) (layer.Symbol t) (value.rolls-Symbol s) (value.rolls-Symbol t) ∙ sym e
 
 pub two_texts : (x y : Node) (s t : List ℕ) (o : Ordering) → x ≡ node.Text s → y ≡ node.Text t → o ≡ bytes_cmp s t → IsNodeOrder x y (Known o)
-two_texts x y s t o p q e = λ vs. (λ i. value_cmp (value_from vs (p i)) (value_from vs (q i))) ∙ cmp_of (value.Text s) (value.Text t) (layer.Text s) (layer.Text t) (value.rolls-Text s) (value.rolls-Text t) ∙ sym e
+two_texts x y s t o p q e = λ vs. (λ i. value_cmp (value_from vs (p i)) (value_from vs (q i))) ∙ by_layers (value.Text s) (value.Text t) (layer.Text s) (layer.Text t) (value.rolls-Text s) (value.rolls-Text t) ∙ sym e
 
 -- integers, symbols, texts, functional terms
 abbrev pub kind : Node → ℕ
@@ -126,20 +119,20 @@ kind (node.Fun f xs) = 3
 
 pub earlier_kind : (x y : Node) → HasArguments x → HasArguments y → kind x < kind y → IsNodeOrder x y (Known Less)
 earlier_kind (node.Int m) (node.Int n) p q lt = absurd (omega (arith, lt))
-earlier_kind (node.Int m) (node.Symbol t) p q lt = λ vs. cmp_of (value.Int m) (value.Symbol t) (layer.Int m) (layer.Symbol t) (value.rolls-Int m) (value.rolls-Symbol t)
-earlier_kind (node.Int m) (node.Text v) p q lt = λ vs. cmp_of (value.Int m) (value.Text v) (layer.Int m) (layer.Text v) (value.rolls-Int m) (value.rolls-Text v)
+earlier_kind (node.Int m) (node.Symbol t) p q lt = λ vs. by_layers (value.Int m) (value.Symbol t) (layer.Int m) (layer.Symbol t) (value.rolls-Int m) (value.rolls-Symbol t)
+earlier_kind (node.Int m) (node.Text v) p q lt = λ vs. by_layers (value.Int m) (value.Text v) (layer.Int m) (layer.Text v) (value.rolls-Int m) (value.rolls-Text v)
 earlier_kind (node.Int m) (node.Fun g []) p q lt = absurd (omega (arith, q))
-earlier_kind (node.Int m) (node.Fun g (y ∷ ys)) p q lt = λ vs. cmp_of (value.Int m) (value.Fun g (part vs y) (map (part vs) ys)) (layer.Int m) (layer.Fun g (part vs y) (map (part vs) ys)) (value.rolls-Int m) (value.rolls-Fun g (part vs y) (map (part vs) ys))
+earlier_kind (node.Int m) (node.Fun g (y ∷ ys)) p q lt = λ vs. by_layers (value.Int m) (value.Fun g (part vs y) (map (part vs) ys)) (layer.Int m) (layer.Fun g (part vs y) (map (part vs) ys)) (value.rolls-Int m) (value.rolls-Fun g (part vs y) (map (part vs) ys))
 earlier_kind (node.Symbol s) (node.Int n) p q lt = absurd (omega (arith, lt))
 earlier_kind (node.Symbol s) (node.Symbol t) p q lt = absurd (omega (arith, lt))
-earlier_kind (node.Symbol s) (node.Text v) p q lt = λ vs. cmp_of (value.Symbol s) (value.Text v) (layer.Symbol s) (layer.Text v) (value.rolls-Symbol s) (value.rolls-Text v)
+earlier_kind (node.Symbol s) (node.Text v) p q lt = λ vs. by_layers (value.Symbol s) (value.Text v) (layer.Symbol s) (layer.Text v) (value.rolls-Symbol s) (value.rolls-Text v)
 earlier_kind (node.Symbol s) (node.Fun g []) p q lt = absurd (omega (arith, q))
-earlier_kind (node.Symbol s) (node.Fun g (y ∷ ys)) p q lt = λ vs. cmp_of (value.Symbol s) (value.Fun g (part vs y) (map (part vs) ys)) (layer.Symbol s) (layer.Fun g (part vs y) (map (part vs) ys)) (value.rolls-Symbol s) (value.rolls-Fun g (part vs y) (map (part vs) ys))
+earlier_kind (node.Symbol s) (node.Fun g (y ∷ ys)) p q lt = λ vs. by_layers (value.Symbol s) (value.Fun g (part vs y) (map (part vs) ys)) (layer.Symbol s) (layer.Fun g (part vs y) (map (part vs) ys)) (value.rolls-Symbol s) (value.rolls-Fun g (part vs y) (map (part vs) ys))
 earlier_kind (node.Text u) (node.Int n) p q lt = absurd (omega (arith, lt))
 earlier_kind (node.Text u) (node.Symbol t) p q lt = absurd (omega (arith, lt))
 earlier_kind (node.Text u) (node.Text v) p q lt = absurd (omega (arith, lt))
 earlier_kind (node.Text u) (node.Fun g []) p q lt = absurd (omega (arith, q))
-earlier_kind (node.Text u) (node.Fun g (y ∷ ys)) p q lt = λ vs. cmp_of (value.Text u) (value.Fun g (part vs y) (map (part vs) ys)) (layer.Text u) (layer.Fun g (part vs y) (map (part vs) ys)) (value.rolls-Text u) (value.rolls-Fun g (part vs y) (map (part vs) ys))
+earlier_kind (node.Text u) (node.Fun g (y ∷ ys)) p q lt = λ vs. by_layers (value.Text u) (value.Fun g (part vs y) (map (part vs) ys)) (layer.Text u) (layer.Fun g (part vs y) (map (part vs) ys)) (value.rolls-Text u) (value.rolls-Fun g (part vs y) (map (part vs) ys))
 earlier_kind (node.Fun f []) y p q lt = absurd (omega (arith, p))
 earlier_kind (node.Fun f (x ∷ xs)) (node.Int n) p q lt = absurd (omega (arith, lt))
 earlier_kind (node.Fun f (x ∷ xs)) (node.Symbol t) p q lt = absurd (omega (arith, lt))
@@ -152,20 +145,20 @@ later_kind (node.Int m) (node.Symbol t) p q lt = absurd (omega (arith, lt))
 later_kind (node.Int m) (node.Text v) p q lt = absurd (omega (arith, lt))
 later_kind (node.Int m) (node.Fun g []) p q lt = absurd (omega (arith, q))
 later_kind (node.Int m) (node.Fun g (y ∷ ys)) p q lt = absurd (omega (arith, lt))
-later_kind (node.Symbol s) (node.Int n) p q lt = λ vs. cmp_of (value.Symbol s) (value.Int n) (layer.Symbol s) (layer.Int n) (value.rolls-Symbol s) (value.rolls-Int n)
+later_kind (node.Symbol s) (node.Int n) p q lt = λ vs. by_layers (value.Symbol s) (value.Int n) (layer.Symbol s) (layer.Int n) (value.rolls-Symbol s) (value.rolls-Int n)
 later_kind (node.Symbol s) (node.Symbol t) p q lt = absurd (omega (arith, lt))
 later_kind (node.Symbol s) (node.Text v) p q lt = absurd (omega (arith, lt))
 later_kind (node.Symbol s) (node.Fun g []) p q lt = absurd (omega (arith, q))
 later_kind (node.Symbol s) (node.Fun g (y ∷ ys)) p q lt = absurd (omega (arith, lt))
-later_kind (node.Text u) (node.Int n) p q lt = λ vs. cmp_of (value.Text u) (value.Int n) (layer.Text u) (layer.Int n) (value.rolls-Text u) (value.rolls-Int n)
-later_kind (node.Text u) (node.Symbol t) p q lt = λ vs. cmp_of (value.Text u) (value.Symbol t) (layer.Text u) (layer.Symbol t) (value.rolls-Text u) (value.rolls-Symbol t)
+later_kind (node.Text u) (node.Int n) p q lt = λ vs. by_layers (value.Text u) (value.Int n) (layer.Text u) (layer.Int n) (value.rolls-Text u) (value.rolls-Int n)
+later_kind (node.Text u) (node.Symbol t) p q lt = λ vs. by_layers (value.Text u) (value.Symbol t) (layer.Text u) (layer.Symbol t) (value.rolls-Text u) (value.rolls-Symbol t)
 later_kind (node.Text u) (node.Text v) p q lt = absurd (omega (arith, lt))
 later_kind (node.Text u) (node.Fun g []) p q lt = absurd (omega (arith, q))
 later_kind (node.Text u) (node.Fun g (y ∷ ys)) p q lt = absurd (omega (arith, lt))
 later_kind (node.Fun f []) y p q lt = absurd (omega (arith, p))
-later_kind (node.Fun f (x ∷ xs)) (node.Int n) p q lt = λ vs. cmp_of (value.Fun f (part vs x) (map (part vs) xs)) (value.Int n) (layer.Fun f (part vs x) (map (part vs) xs)) (layer.Int n) (value.rolls-Fun f (part vs x) (map (part vs) xs)) (value.rolls-Int n)
-later_kind (node.Fun f (x ∷ xs)) (node.Symbol t) p q lt = λ vs. cmp_of (value.Fun f (part vs x) (map (part vs) xs)) (value.Symbol t) (layer.Fun f (part vs x) (map (part vs) xs)) (layer.Symbol t) (value.rolls-Fun f (part vs x) (map (part vs) xs)) (value.rolls-Symbol t)
-later_kind (node.Fun f (x ∷ xs)) (node.Text v) p q lt = λ vs. cmp_of (value.Fun f (part vs x) (map (part vs) xs)) (value.Text v) (layer.Fun f (part vs x) (map (part vs) xs)) (layer.Text v) (value.rolls-Fun f (part vs x) (map (part vs) xs)) (value.rolls-Text v)
+later_kind (node.Fun f (x ∷ xs)) (node.Int n) p q lt = λ vs. by_layers (value.Fun f (part vs x) (map (part vs) xs)) (value.Int n) (layer.Fun f (part vs x) (map (part vs) xs)) (layer.Int n) (value.rolls-Fun f (part vs x) (map (part vs) xs)) (value.rolls-Int n)
+later_kind (node.Fun f (x ∷ xs)) (node.Symbol t) p q lt = λ vs. by_layers (value.Fun f (part vs x) (map (part vs) xs)) (value.Symbol t) (layer.Fun f (part vs x) (map (part vs) xs)) (layer.Symbol t) (value.rolls-Fun f (part vs x) (map (part vs) xs)) (value.rolls-Symbol t)
+later_kind (node.Fun f (x ∷ xs)) (node.Text v) p q lt = λ vs. by_layers (value.Fun f (part vs x) (map (part vs) xs)) (value.Text v) (layer.Fun f (part vs x) (map (part vs) xs)) (layer.Text v) (value.rolls-Fun f (part vs x) (map (part vs) xs)) (value.rolls-Text v)
 later_kind (node.Fun f (x ∷ xs)) (node.Fun g ys) p q lt = absurd (omega (arith, lt))
 
 -- what the tests of `!=` say

@@ -1,5 +1,5 @@
 -- What `intern` leaves.
-use Rattle.std.proofs.Common.{◌≡◌, inl, inr, ℕ, ◌<◌, ◌≤◌, false, List, [], ◌∷◌, ◌++◌, length, slice_get, Option, Some, None, Result, Ok, Err, IfOk, IfErr, refl, sym, ap, subst, ◌∙◌, arith, is_some, true≢false}
+use Rattle.std.proofs.Common.{◌≡◌, inl, inr, ℕ, ◌<◌, ◌≤◌, List, [], ◌∷◌, ◌++◌, length, slice_get, Some, None, Result, Ok, Err, IfOk, refl, sym, ap, subst, ◌∙◌, arith}
 use Rattle.std.specs.Prelude.{position}
 use Rattle.std.specs.Map.{keys_of, values_of}
 use Rattle.std.proofs.lemmas.List.{map-append}
@@ -24,10 +24,6 @@ length-keys es = length-map (λ (x : Node × Measure). x.0) es
 
 parts_here : (es : Entries) (n : Node) → PartsBelow (length (keys_of es)) n → PartsBelow (length es) n
 parts_here es n h = subst (λ k. PartsBelow k n) (length-keys es) h
-
-none_from : {A : Type 0} (o : Option A) → false ≡ is_some o → o ≡ None
-none_from None e = refl
-none_from (Some x) e = absurd (true≢false (sym e))
 
 pub IsTable-added : (es fs : Entries) (n : Node) (m : Measure) (r : Result ℕ PoolFault) → IsTable es → PartsBelow (length (keys_of es)) n → HasArguments n
     → position (node_eq n) (keys_of es) ≡ None → IsMeasured es n m → IsAdded es fs n m r → IsTable fs
@@ -60,10 +56,6 @@ new_last es fs n m (Ok id) none h = record {
 
     place : id ≡ length (keys_of es)
     place = h.0 ∙ sym (length-keys es)
-
-pub not_added : (es fs : Entries) (n : Node) (m : Measure) (r : Result ℕ PoolFault) → IsAdded es fs n m r → IfErr r (λ f. IsRefusal (keys_of es) (keys_of fs) n f)
-not_added es fs n m (Ok id) h = tt
-not_added es fs n m (Err f) h = subst (IsRefusal (keys_of es) (keys_of fs) n) (sym h.0) (ap keys_of h.1)
 
 pub refused : (es : Entries) (n : Node) (f : PoolFault) → IsTable es → PartsBelow (length (keys_of es)) n → Measures es n (Err f) → IsRefusal (keys_of es) (keys_of es) n f
 refused es n (fault.TooLarge size) t low h = (refl, h.0 ∙ node_size-is es n t (parts_here es n low), h.1)

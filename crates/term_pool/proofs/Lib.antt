@@ -4,8 +4,6 @@ pub mod PlaceLemmas
 pub mod PoolLemmas
 pub mod TableLemmas
 pub mod InternLemmas
-pub mod OrderLemmas
 pub mod CompareLemmas
 pub mod OnceLemmas
-pub mod TotalLemmas
 pub mod IntegerLemmas

@@ -9,23 +9,12 @@ use Rattle.asp_meaning.specs.declared.value.Value.{Value}
 use Rattle.asp_meaning.specs.declared.value.Value.TheOpen.{Value-F}
 use Rattle.asp_meaning.specs.declared.value.Value.TheOpen as layer
 use Rattle.asp_meaning.specs.declared.value.Value.TheVariants as value
-use Rattle.asp_meaning.specs.declared.value.Value.TheViews.{out-Value, out-roll-Value}
+use Rattle.asp_meaning.specs.declared.value.Value.TheViews.{out-Value}
+use Rattle.asp_meaning.proofs.Layers.{out-Int, out-Symbol, out-Text, out-Fun}
 use Rattle.term_pool.specs.Interning.{NoneTwice}
 use Rattle.term_pool.specs.Nodes.{part, value_from, values, PartsBelow, HasArguments, IsPool}
 use Rattle.term_pool.proofs.PlaceLemmas.{get-cases, get-kept, get-last as get-end, grow}
 use Rattle.term_pool.proofs.PoolLemmas.{values-push, length-values, value_of_node, PartsBelow-more}
-
-out-Int : (n : ℤ) → out-Value (value.Int n) ≡ layer.Int n
-out-Int n = ap out-Value (sym (value.rolls-Int n)) ∙ out-roll-Value (layer.Int n)
-
-out-Symbol : (x : List ℕ) → out-Value (value.Symbol x) ≡ layer.Symbol x
-out-Symbol x = ap out-Value (sym (value.rolls-Symbol x)) ∙ out-roll-Value (layer.Symbol x)
-
-out-Text : (x : List ℕ) → out-Value (value.Text x) ≡ layer.Text x
-out-Text x = ap out-Value (sym (value.rolls-Text x)) ∙ out-roll-Value (layer.Text x)
-
-out-Fun : (f : List ℕ) (x : Value) (xs : List Value) → out-Value (value.Fun f x xs) ≡ layer.Fun f x xs
-out-Fun f x xs = ap out-Value (sym (value.rolls-Fun f x xs)) ∙ out-roll-Value (layer.Fun f x xs)
 
 -- one layer of a node's value
 layer_of : List Value → Node → Value-F Value
@@ -82,7 +71,8 @@ abbrev is_nil : List Value → ℕ
 is_nil [] = 0
 is_nil (v ∷ vs) = 1
 
-same_parts : (vs : List Value) → NoneTwice vs → (xs ys : List ℕ) → All (λ a. a < length vs) xs → All (λ a. a < length vs) ys → map (part vs) xs ≡ map (part vs) ys → xs ≡ ys
+-- where no value stands twice, the same values stand at the same places
+pub same_parts : (vs : List Value) → NoneTwice vs → (xs ys : List ℕ) → All (λ a. a < length vs) xs → All (λ a. a < length vs) ys → map (part vs) xs ≡ map (part vs) ys → xs ≡ ys
 same_parts vs once [] [] hx hy e = refl
 same_parts vs once [] (b ∷ ys) hx hy e = absurd (omega (arith, ap is_nil e))
 same_parts vs once (a ∷ xs) [] hx hy e = absurd (omega (arith, ap is_nil e))

@@ -17,15 +17,13 @@ use Rattle.asp_meaning.specs.declared.value.Value.TheVariants as value
 use Rattle.asp_meaning.specs.Lines.{value_text, call_text, joined, each_after}
 use Rattle.term_pool.specs.declared.measure.Measure.{Measure}
 use Rattle.term_pool.specs.Nodes.{most_symbols, part, value_from, values, value_at, value_size, text_len_of, PartsBelow, HasArguments, IsPool}
+use Rattle.asp_meaning.proofs.Layers.{text-Int, text-Symbol, text-Text, text-functional}
 use Rattle.term_pool.specs.Table.{Entries, nothing, measure_at, size_at, text_len_at, node_size, node_text_len, marks, IsTable}
 use Rattle.term_pool.specs.Measured.{IsMeasured}
 use Rattle.term_pool.proofs.Sums.{measure_there}
 use Rattle.term_pool.proofs.PlaceLemmas.{get_or-any, get_or-mapped, map-map, length-map, sum_by-same}
 use Rattle.term_pool.proofs.PoolLemmas.{values-push, length-values, IsPool-push}
-use Rattle.term_pool.proofs.ValueLemmas.{size-Int, size-Symbol, size-Text, size-functional, text-Int, text-Symbol, text-Text, text-functional}
-
-zero_value : Value
-zero_value = value.Int (pos 0)
+use Rattle.term_pool.proofs.ValueLemmas.{size-Int, size-Symbol, size-Text, size-functional}
 
 -- a column of measures that is a column of values agrees with it at each place
 column : (es : Entries) (of : Measure → ℕ) (is : Value → ℕ) (e : ℕ) → of nothing ≡ e
@@ -117,15 +115,6 @@ IsTable-push es n m t low has new is few = record {
         ap (map of) vals ∙ map-append of (values_of es) (m ∷ []) ∙ (λ i. same i ++ here i ∷ [])
         ∙ sym (map-append is (values (keys_of es)) (value_from (values (keys_of es)) n ∷ []))
         ∙ ap (map is) (sym (values-push (keys_of es) n)) ∙ ap (λ ks. map is (values ks)) (sym keys)
-
-IsTable-nil : IsTable []
-IsTable-nil = record {
-  pool = record { parts = λ i n e. absurd (true≢false (sym (ap is_some e))); arguments = λ i n e. absurd (true≢false (sym (ap is_some e))); once = λ i j n e f. absurd (true≢false (sym (ap is_some e))) };
-  sizes = refl;
-  text_lens = refl;
-  small = λ k d lt. absurd (omega arith);
-  few = omega arith;
-}
 
 differs_not : (b : Bool) → not b ≡ false → b ≡ true
 differs_not true e = refl

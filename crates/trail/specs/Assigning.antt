@@ -1,5 +1,5 @@
 -- What contracts see of a trail, and what each call makes of it.
-use Rattle.std.specs.Prelude.{◌≡◌, ℕ, ◌+◌, ◌<◌, ◌≤◌, min, ◌⊎◌, Bool, true, false, ◌&&◌, cond, nat_eq, nat_lt, List, [], ◌∷◌, ◌++◌, length, take, slice_index, Option, Some, None}
+use Rattle.std.specs.Prelude.{◌≡◌, ℕ, ◌+◌, ◌<◌, ◌≤◌, min, ◌⊎◌, Bool, true, false, ◌&&◌, cond, nat_eq, nat_lt, List, [], ◌∷◌, ◌++◌, length, reverse, set, get_or, take, slice_index, Option, Some, None}
 use Rattle.std.specs.Option.{option_map}
 use Rattle.alpha_outside.specs.declared.literal.Value.{Value}
 use Rattle.alpha_outside.specs.declared.literal.Value.TheVariants.{True, MustBe, False}
@@ -34,18 +34,26 @@ MayRise before = (before ≡ None) ⊎ (before ≡ Some MustBe)
 abbrev pub MayDecide : Option Value → Bool → Type 0
 MayDecide before up = (before ≡ None) ⊎ ((before ≡ Some MustBe) × (up ≡ true))
 
+-- a closed atom had no value before, and is false
+abbrev pub MayClose : Option Value → Value → Why → Type 0
+MayClose before value (Given n) = Unit {0}
+MayClose before value Chosen = Unit {0}
+MayClose before value (Closed reason) = (before ≡ None) × (value ≡ False)
+
 -- an entry of the value counts where it is true or false: an atom has at most one such
 abbrev pub full_by : Value → ℕ
 full_by True = 1
 full_by MustBe = 0
 full_by False = 1
 
--- an entry above others: its atom has a place, it might become this, its level is told, and no level is opened by a must-be-true
+-- an entry above others: its atom has a place, it might become this, its level is told, no level is opened by a must-be-true, and one that is closed
+-- is the first of its atom
 pub record IsEntryOf (atoms : ℕ) (e : Entry) (rest : List Entry) : Type 0 where
   pub placed : e.atom < atoms
   pub may : MayBecome (value_of rest e.atom) e.value
   pub level_told : e.level ≡ level_of rest + opened e.why
   pub opens_full : opened e.why ≤ full_by e.value
+  pub closes : MayClose (value_of rest e.atom) e.value e.why
 
 -- each entry is one that may stand above the others
 abbrev pub IsStackOf : ℕ → List Entry → Type 0
@@ -103,3 +111,27 @@ taken_to t level = record {
 -- the levels above this one were taken away; where there is none, all stays
 abbrev pub jumped : Trailed → ℕ → Trailed
 jumped t level = cond (nat_lt level (level_of t.stack)) (taken_to t level) t
+
+-- ---- reasons of closed atoms
+
+-- no reason is known of an entry for this reason, which is closed
+abbrev pub is_unexplained_why : Why → Bool
+is_unexplained_why (Given n) = false
+is_unexplained_why Chosen = false
+is_unexplained_why (Closed None) = true
+is_unexplained_why (Closed (Some n)) = false
+
+-- whether the entry is that of this atom, closed without a reason
+abbrev pub is_unexplained_entry : Entry → ℕ → Bool
+is_unexplained_entry e a = is_unexplained_why e.why && nat_eq e.atom a
+
+-- the nogood became the reason of the newest entry of the atom that is closed without one
+abbrev pub explained_newest : ℕ → ℕ → List Entry → List Entry
+explained_newest a n [] = []
+explained_newest a n (e ∷ rest) = cond (is_unexplained_entry e a) (record e { why = Closed (Some n) } ∷ rest) (e ∷ explained_newest a n rest)
+
+-- at this place among the entries, the oldest first, stands the one that gets the reason
+abbrev pub IsUnexplainedAt : List Entry → ℕ → ℕ → Type 0
+IsUnexplainedAt entries a place =
+    (place < length entries)
+    × ((e : Entry) → e ≡ get_or entries place e → (n : ℕ) → reverse (set entries place (record e { why = Closed (Some n) })) ≡ explained_newest a n (reverse entries))

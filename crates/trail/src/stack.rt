@@ -1,9 +1,9 @@
-ghost use Rattle.std.specs.Prelude.{◌≡◌, ℕ, ◌+◌, ◌*◌, ◌<◌, ◌≤◌, min, length, reverse, take, List, [], ◌∷◌, OnOk, OnErr, vec_len, vec_capacity, true, false};
+ghost use Rattle.std.specs.Prelude.{◌≡◌, ℕ, ◌+◌, ◌*◌, ◌<◌, ◌≤◌, min, length, reverse, take, List, [], ◌∷◌, OnOk, OnErr, vec_len, vec_capacity, true, false, Some, None, IfSome, IfNone};
 ghost use Rattle.alpha_outside.specs.declared.literal.Value.TheVariants.{True, MustBe, False};
 ghost use Rattle.search_values.specs.declared.entry.Why.TheVariants.{Given, Chosen, Closed};
 ghost use Rattle.search_values.specs.declared.entry.Entry.{Entry};
-ghost use Rattle.search_values.specs.Values.{value_of, level_of, opened, decision};
-ghost use Rattle.trail.specs.Assigning.{Trailed, MayBecome, MayRise, MayDecide, IsStackOf, full_by, true_by, first_level_of, order_of, visits_with, assigned, jumped};
+ghost use Rattle.search_values.specs.Values.{value_of, level_of, opened, decision, explain, IsWithoutReason};
+ghost use Rattle.trail.specs.Assigning.{Trailed, MayBecome, MayRise, MayDecide, IsStackOf, full_by, true_by, first_level_of, order_of, visits_with, assigned, jumped, MayClose, is_unexplained_entry, explained_newest, IsUnexplainedAt};
 
 use crate::slot::Slot;
 use alpha_outside::{AtomId, NogoodId, OutOfMemory, Value};
@@ -78,6 +78,43 @@ fn decided(up: bool) -> Value
     ensures { result ≡ decision up }
 {
     if up { Value::True } else { Value::False }
+}
+
+/// Whether the entry is that of this atom, closed without a reason.
+fn is_unexplained(entry: &Entry, a: AtomId) -> bool
+    ensures { result ≡ is_unexplained_entry entry.now a }
+{
+    match entry.why {
+        Why::Closed(None) => entry.atom == a,
+        _ => false,
+    }
+}
+
+/// The place of the newest entry of this atom that is closed without a reason.
+fn unexplained_place(entries: &Vec<Entry>, a: AtomId) -> Option<usize>
+    ensures some { IfSome result (IsUnexplainedAt entries.now.items a) }
+    ensures none { IfNone result ((n : ℕ) → explained_newest a n (reverse entries.now.items) ≡ reverse entries.now.items) }
+{
+    let mut left = entries.len();
+    while left > 0 {
+        left -= 1;
+        if is_unexplained(&entries[left], a) {
+            return Some(left);
+        }
+    }
+    None
+}
+
+/// The entry, closed with this reason.
+fn with_reason(entry: &Entry, by: NogoodId) -> Entry
+    ensures { result ≡ record entry.now { why = Closed (Some by) } }
+{
+    Entry {
+        atom: entry.atom,
+        value: entry.value,
+        level: entry.level,
+        why: Why::Closed(Some(by)),
+    }
 }
 
 impl Trail {
@@ -174,6 +211,7 @@ impl Trail {
         requires placed { a < self.old.atoms }
         requires may { MayBecome (value_of self.old.stack a) value }
         requires opens_full { opened why ≤ full_by value }
+        requires closes { MayClose (value_of self.old.stack a) value why }
         ensures { self.new ≡ assigned self.old a value why }
     {
         let slot = self.slots[a.place()];
@@ -254,6 +292,25 @@ impl Trail {
         ensures { self.new ≡ assigned self.old a False (Closed None) }
     {
         self.assign(a, Value::False, Why::Closed(None));
+    }
+
+    // Keeps the nogood as the reason of the atom's newest entry that is closed and has none. It looks at the newer entries.
+    fn explain_newest(&mut self, a: AtomId, by: NogoodId)
+        ensures { self.new ≡ record self.old { stack = explained_newest a by self.old.stack } }
+    {
+        if let Some(place) = unexplained_place(&self.entries, a) {
+            let entry = self.entries[place];
+            self.entries[place] = with_reason(&entry, by);
+        }
+    }
+
+    /// Keeps the nogood as the reason of a closed atom, which has none yet. It looks at the newer entries.
+    pub fn explain(&mut self, a: AtomId, by: NogoodId)
+        requires closed { IsWithoutReason self.old.stack a }
+        ensures { self.new ≡ record self.old { stack = explain a by self.old.stack } }
+    {
+        let _ = self.entries();
+        self.explain_newest(a, by);
     }
 
     /// Takes the newest entry away, and its level where it opened one.

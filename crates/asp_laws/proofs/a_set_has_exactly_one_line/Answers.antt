@@ -1,7 +1,8 @@
 use Rattle.asp_laws.proofs.a_set_has_exactly_one_line.Goals as goal
 use Rattle.asp_laws.proofs.Written.{each_kind_is_written, a_line_is_written}
 use Rattle.asp_laws.proofs.Numerals.{integers_have_their_own_text}
-use Rattle.asp_laws.proofs.Lines.{atom_cmp_total, atom_same, a_set_has_a_line, a_set_has_one_line}
+use Rattle.asp_meaning.proofs.AtomOrder.{atom_cmp_total, atom_same}
+use Rattle.asp_laws.proofs.Lines.{a_set_has_a_line, a_set_has_one_line}
 
 pub returns-clause-the_order_of_atoms_is_total : goal.returns-clause-the_order_of_atoms_is_total
 returns-clause-the_order_of_atoms_is_total c = atom_cmp_total

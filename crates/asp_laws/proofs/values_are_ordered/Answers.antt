@@ -1,6 +1,6 @@
 use Rattle.asp_laws.proofs.values_are_ordered.Goals as goal
 use Rattle.asp_laws.proofs.Written.{kinds_are_in_order, each_kind_is_ordered}
-use Rattle.asp_laws.proofs.Values.{value_cmp_total}
+use Rattle.asp_meaning.proofs.ValueOrder.{value_cmp_total}
 use Rattle.asp_laws.proofs.Lines.{equal_is_the_same, comparisons_are_opposites}
 
 pub returns-clause-the_order_of_values_is_total : goal.returns-clause-the_order_of_values_is_total

@@ -1,11 +1,11 @@
 use Rattle.std.proofs.Common.{◌≡◌, ◌↔◌, sym, ap, subst, ◌∙◌, List, [], map}
-use Rattle.choice_rewrite.specs.declared.single.SingleRule.{SingleRule}
+use Rattle.single_rules.specs.declared.single.SingleRule.{SingleRule}
 use Rattle.core_rules.specs.declared.rules.CoreRule.{CoreRule}
 use Rattle.core_rules.specs.declared.rules.CoreAggregate.{CoreAggregate}
 use Rattle.core_rules.specs.CoreForm.{IsCoreForm}
 use Rattle.core_rules.specs.Names.{IsNamedCore}
 use Rattle.core_meaning.specs.AnswerSets.{HasCoreSets, AreDetermined}
-use Rattle.choice_rewrite.specs.AnswerSets.{IsSingleAnswerSet}
+use Rattle.single_rules.specs.AnswerSets.{IsSingleAnswerSet}
 use Rattle.rewriting.specs.CoreRules.{core_rule_of, core_of}
 use Rattle.aggregate_rewrite.proofs.rules.rewrite.Goals as goal
 

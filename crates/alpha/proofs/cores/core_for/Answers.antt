@@ -1,8 +1,5 @@
-use Rattle.alpha.proofs.CoreLemmas.{can_split, can_rewrite, its_core_is_ground, its_answer_sets}
+use Rattle.alpha.proofs.CoreLemmas.{can_rewrite, its_core_is_ground, its_answer_sets}
 use Rattle.alpha.proofs.cores.core_for.Goals as goal
-
-pub split-requires-clause-splittable : goal.split-requires-clause-splittable
-split-requires-clause-splittable c = can_split _ _ c.in-Ok.ensures.statements c.requires.built
 
 pub rewrite-requires-clause-built : goal.rewrite-requires-clause-built
 rewrite-requires-clause-built c = can_rewrite _ _ c.in-Ok.ensures.statements c.requires.built _ c.in-Ok-split.ensures.rules

@@ -2,7 +2,7 @@ use Rattle.std.proofs.Common.{subst, ℕ, List, rules}
 use Rattle.std.specs.List.Sorted.{IsPermutation}
 use Rattle.asp_meaning.specs.Lines.{atom_cmp}
 use Rattle.atom_pool.specs.Meanings.{atom_at}
-use Rattle.answer_printer.proofs.OrderLemmas.{atom_cmp_total}
+use Rattle.asp_meaning.proofs.AtomOrder.{atom_cmp_total}
 use Rattle.answer_printer.proofs.SortLemmas.{sorted_by_key, permuted_members}
 use Rattle.answer_printer.proofs.LineLemmas.{sorted_in_order}
 use Rattle.answer_printer.proofs.line.sorted_ids.Goals as goal

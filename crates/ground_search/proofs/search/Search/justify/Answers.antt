@@ -5,11 +5,11 @@ use Rattle.ground_search.proofs.FieldLemmas.{ties_learned}
 use Rattle.ground_search.proofs.Barred.{justified_once, justified_low}
 use Rattle.ground_search.proofs.search.Search.justify.Goals as goal
 
-pub add-requires-clause-no_atom_twice : goal.add-requires-clause-no_atom_twice
-add-requires-clause-no_atom_twice c = subst HasNoAtomTwice (sym (c.as_slice.ensures ∙ c.in_ok-lits.ensures)) (justified_once c.args.self.now c.args.found.now.atom c.args.found.now.falses c.requires)
+pub admit-requires-clause-no_atom_twice : goal.admit-requires-clause-no_atom_twice
+admit-requires-clause-no_atom_twice c = subst HasNoAtomTwice (sym (c.as_slice.ensures ∙ c.in_ok-lits.ensures)) (justified_once c.args.self.now c.args.found.now.atom c.args.found.now.falses c.requires)
 
 pub invariant_of-self-2 : goal.invariant_of-self-2
 invariant_of-self-2 c =
-    ties_learned _ c.self.invariant c.add.new.self _ c.in_ok-nogood.ensures.ok
+    ties_learned _ c.self.invariant c.admit.new.store _ c.in_ok-nogood.ensures.ok c.admit.ensures.matches
     (subst (λ (v : Searching). LitsAreBelow (ids v) c.as_slice.result.now) (sym c.self.view_is)
     (subst (λ lits. LitsAreBelow (ids c.args.self.now) lits) (sym (c.as_slice.ensures ∙ c.in_ok-lits.ensures)) (justified_low c.args.self.now c.args.found.now.atom c.args.found.now.falses c.requires)))

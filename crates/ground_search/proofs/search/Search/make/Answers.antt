@@ -43,13 +43,13 @@ within c = subst (λ (k : Made). IsWithin (ids c.args.self.now) k) (sym (made_is
 drafted : (c : After-as_slice) → Each (IsDraft (ids c.args.self.now)) c.as_slice.result.now
 drafted c = subst (λ (z : List Draft). Each (IsDraft (ids c.args.self.now)) z) (sym c.as_slice.ensures.value) (c.in_ok-drafts.ensures.drafts (ids c.args.self.now) (within c))
 
-pub store_all-requires : goal.store_all-requires
-store_all-requires c = drafts_storable (ids c.args.self.now) c.as_slice.result.now (drafted c)
+pub store_all-requires-clause-storable : goal.store_all-requires-clause-storable
+store_all-requires-clause-storable c = drafts_storable (ids c.args.self.now) c.as_slice.result.now (drafted c)
 
 pub invariant_of-self : goal.invariant_of-self
 invariant_of-self c =
     let after = (goal.at.invariant_of-self c).After-as_slice in
-    ties_stored _ c.self.invariant c.store_all.new.nogoods _ c.store_all.ensures.some.1
+    ties_stored _ c.self.invariant c.store_all.new.nogoods _ c.store_all.ensures.some.1 c.store_all.ensures.matches
     (firsts_below _ c.store_all.ensures.some.0 c.as_slice.result.now (subst (λ (v : Searching). Each (IsDraft (ids v)) c.as_slice.result.now) (sym c.self.view_is) (drafted after)))
 
 pub add-requires : goal.add-requires
@@ -63,7 +63,7 @@ add-requires c =
 pub invariant_of-self-in_err-inst : goal.invariant_of-self-in_err-inst
 invariant_of-self-in_err-inst c =
     let after = (goal.at.invariant_of-self-in_err-inst c).After-as_slice in
-    rw (c.in_err-inst.ensures.err) (ties_stored _ c.self.invariant c.store_all.new.nogoods _ c.store_all.ensures.some.1
+    rw (c.in_err-inst.ensures.err) (ties_stored _ c.self.invariant c.store_all.new.nogoods _ c.store_all.ensures.some.1 c.store_all.ensures.matches
     (firsts_below _ c.store_all.ensures.some.0 c.as_slice.result.now (subst (λ (v : Searching). Each (IsDraft (ids v)) c.as_slice.result.now) (sym c.self.view_is) (drafted after))))
 
 -- the instance was noted, or nothing was
@@ -86,7 +86,7 @@ invariant_of-self-2 c =
     let longer : length c.add.new.self ≡ length c.self.inside.ground.instances + 1 = ap length more ∙ length-append c.self.inside.ground.instances (k ∷ []) in
     let at : slice_get c.add.new.self c.in_ok-inst.inst ≡ Some k = ap (λ n. slice_get c.add.new.self n) inst ∙ ap (λ ks. slice_get ks (length c.self.inside.ground.instances)) more ∙ get-last c.self.inside.ground.instances k in
     let inside = subst (λ (v : Searching). IsWithin (ids v) k) (sym c.self.view_is) (within after) in
-    let made = ties_made _ (ties_stored _ c.self.invariant c.store_all.new.nogoods _ c.store_all.ensures.some.1
+    let made = ties_made _ (ties_stored _ c.self.invariant c.store_all.new.nogoods _ c.store_all.ensures.some.1 c.store_all.ensures.matches
     (firsts_below _ c.store_all.ensures.some.0 c.as_slice.result.now (subst (λ (v : Searching). Each (IsDraft (ids v)) c.as_slice.result.now) (sym c.self.view_is) (drafted after))))
     c.add.new.self k more c.args.rule (ap (λ (l : Made). l.maker) (made_is after)) inside in
     elim (noted_either c.note_instance.result c.add.new.self c.in_ok-inst.inst k c.self.inside.choices c.note_instance.new.self c.note_instance.ensures.ok c.note_instance.ensures.err at) [

@@ -18,8 +18,14 @@ use Rattle.ground_search.proofs.ViewLemmas.{view_named, view_same}
 use Rattle.ground_search.proofs.search.Search.name_atom.Goals as goal
 use Rattle.ground_search.proofs.search.Search.name_atom.Goals.{After-len-2}
 
+pub invariant_of-self : goal.invariant_of-self
+invariant_of-self c = ties_roomy _ c.self.invariant c.make_place.new.trail c.make_place.ensures.same c.make_place.ensures.more
+
+pub invariant_of-self-in_err-copy : goal.invariant_of-self-in_err-copy
+invariant_of-self-in_err-copy c = ties_roomy _ c.self.invariant c.make_place.new.trail c.make_place.ensures.same c.make_place.ensures.more
+
 pub invariant_of-self-in_err-pred : goal.invariant_of-self-in_err-pred
-invariant_of-self-in_err-pred c = rw (c.in_err-pred.ensures.err) (ties_roomy _ c.self.invariant c.make_place.new.trail.atoms c.make_place.ensures.more)
+invariant_of-self-in_err-pred c = rw (c.in_err-pred.ensures.err) (ties_roomy _ c.self.invariant c.make_place.new.trail c.make_place.ensures.same c.make_place.ensures.more)
 
 -- no terms came, and the names are as before
 pub invariant_of-self-in_err-id : goal.invariant_of-self-in_err-id
@@ -31,7 +37,7 @@ invariant_of-self-in_err-id c =
     let room = c.in_ok-make_place.ensures.room in
     let before = c.len-before.ensures.len in
     let fits = c.len-before.type_inv in
-    rw same (ties_grown _ c.self.invariant c.self.inside.ground.terms c.pred.new.self c.make_place.new.trail.atoms (omega arith)
+    rw same (ties_grown _ c.self.invariant c.self.inside.ground.terms c.pred.new.self c.make_place.new.trail c.make_place.ensures.same (omega arith)
     (users_more c.self.inside.ground.atoms.preds c.pred.new.self.preds _ c.in_ok-pred.pred c.in_ok-pred.ensures.ok c.self.invariant.users (user_pred _ (length c.args.args.now) (subst (λ p. IsUserOf p (length c.args.args.now)) (sym (c.in_ok-copy.ensures)) c.requires.user)))
     (subst (λ xs. IsBeside (record { preds = c.pred.new.self.preds; atoms = xs }) (length c.self.inside.ground.terms)) (sym atoms) c.self.invariant.beside)
     (omega (arith, size)) (omega (arith, size, before, room)) (omega (arith, size, before, fits)))
@@ -75,7 +81,7 @@ invariant_of-self-2 c =
     c.self.invariant.beside c.self.invariant.users (is_user c) (args_there c) c.in_ok-pred.ensures.ok c.pred.ensures.atoms c.in_ok-id.ensures.ok c.intern.ensures.preds in
     let more = one_more nodes pool c.pred.new.self c.intern.new.self c.in_ok-copy.field-0 c.in_ok-pred.pred c.in_ok-id.id c.args.args.now c.len.ensures.pool c.len-before.ensures.pool c.len-2.ensures.pool
     c.self.invariant.beside c.self.invariant.users (is_user c) (args_there c) c.in_ok-pred.ensures.ok c.pred.ensures.atoms c.in_ok-id.ensures.ok c.intern.ensures.preds in
-    ties_grown _ c.self.invariant nodes c.intern.new.self c.make_place.new.trail.atoms (omega arith)
+    ties_grown _ c.self.invariant nodes c.intern.new.self c.make_place.new.trail c.make_place.ensures.same (omega arith)
     (all_users nodes pool c.pred.new.self c.intern.new.self c.in_ok-copy.field-0 c.in_ok-pred.pred c.in_ok-id.id c.args.args.now c.len.ensures.pool c.len-before.ensures.pool c.len-2.ensures.pool
     c.self.invariant.beside c.self.invariant.users (is_user c) (args_there c) c.in_ok-pred.ensures.ok c.pred.ensures.atoms c.in_ok-id.ensures.ok c.intern.ensures.preds)
     (all_beside nodes pool c.pred.new.self c.intern.new.self c.in_ok-copy.field-0 c.in_ok-pred.pred c.in_ok-id.id c.args.args.now c.len.ensures.pool c.len-before.ensures.pool c.len-2.ensures.pool

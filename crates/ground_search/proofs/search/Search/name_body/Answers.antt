@@ -13,8 +13,11 @@ use Rattle.ground_search.proofs.ViewLemmas.{view_named}
 use Rattle.ground_search.proofs.search.Search.name_body.Goals as goal
 use Rattle.ground_search.proofs.search.Search.name_body.Goals.{After-len-2}
 
+pub invariant_of-self : goal.invariant_of-self
+invariant_of-self c = ties_roomy _ c.self.invariant c.make_place.new.trail c.make_place.ensures.same c.make_place.ensures.more
+
 pub invariant_of-self-in_err-body : goal.invariant_of-self-in_err-body
-invariant_of-self-in_err-body c = rw (c.in_err-body.ensures.err) (ties_roomy _ c.self.invariant c.make_place.new.trail.atoms c.make_place.ensures.more)
+invariant_of-self-in_err-body c = rw (c.in_err-body.ensures.err) (ties_roomy _ c.self.invariant c.make_place.new.trail c.make_place.ensures.same c.make_place.ensures.more)
 
 -- the number of the next instance
 next_is : (c : After-len-2) → c.len.result ≡ length (map (made_of c.self.inside.ground.terms) c.self.inside.ground.instances)
@@ -35,7 +38,7 @@ invariant_of-self-2 c =
     let room = c.in_ok-make_place.ensures.room in
     let count = c.len-2.ensures.len in
     let fits = c.len-2.type_inv in
-    ties_grown _ c.self.invariant c.self.inside.ground.terms c.intern_body.new.self c.make_place.new.trail.atoms (omega arith)
+    ties_grown _ c.self.invariant c.self.inside.ground.terms c.intern_body.new.self c.make_place.new.trail c.make_place.ensures.same (omega arith)
     (body_users c.self.inside.ground.terms pools c.intern_body.new.self c.len.result c.in_ok-body.body there same c.self.invariant.users)
     (body_beside c.self.inside.ground.terms pools c.intern_body.new.self c.len.result c.in_ok-body.body there same c.self.invariant.beside)
     (omega (arith, more)) (omega (arith, more, before, room)) (subst (λ n. n < 4294967296) count fits)

@@ -1,4 +1,0 @@
-pub mod SingleRules
-pub mod AnswerSets
-pub mod Conditions
-pub mod Splitting

@@ -1,0 +1,16 @@
+pub mod Parts
+pub mod Bounds
+pub mod Renamed
+pub mod Names
+pub mod Values
+pub mod Wider
+pub mod BoundVariables
+pub mod ElementRules
+pub mod SignLemmas
+pub mod AnswerSetLemmas
+pub mod KeptBound
+pub mod KeptPromises
+pub mod KeptNames
+pub mod Candidates
+pub mod Chosen
+pub mod ListedExtents
