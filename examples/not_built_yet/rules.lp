@@ -1,4 +1,4 @@
 it_rains.
 take(umbrella) :- it_rains, not indoors.
-take(X) :- take(X),
+{take(hat); take(coat)} = 1 :-
     it_rains.

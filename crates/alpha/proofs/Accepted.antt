@@ -1,17 +1,18 @@
 -- The promises of a run whose words and file are accepted.
-use Rattle.std.proofs.Common.{◌≡◌, ◌⊎◌, inl, inr, refl, sym, ap, subst, ◌∙◌, ℕ, ◌<◌, ◌≤◌, arith, List, [], ◌++◌, length, Option, Some, None, append-nil}
+use Rattle.std.proofs.Common.{◌≡◌, ◌⊎◌, inl, inr, refl, sym, ap, subst, ◌∙◌, ℕ, ℤ, ◌<◌, ◌≤◌, arith, List, [], ◌++◌, length, Option, Some, None, append-nil}
 use Rattle.lists.specs.Lists.{Each, HasNoRepeats}
+use Rattle.alpha_outside.specs.declared.kinds.ArithOp.{ArithOp}
 use Rattle.alpha_outside.specs.declared.event.Event.{Event}
 use Rattle.alpha_outside.specs.Outside.{Rose, FileIs}
 use Rattle.asp_syntax.specs.declared.tree.Statement.{Statement}
 use Rattle.asp_meaning.specs.Output.{set_lines, IsAnswerSetLine, HaveAll}
 use Rattle.search_theory.specs.Journals.{IsLegal}
-use Rattle.enumerator.specs.Search.{SinkChange, TraceChange, Journaled}
-use Rattle.alpha.specs.declared.status.BudgetKind.TheVariants as budget
+use Rattle.search_journals.specs.Search.{SinkChange, TraceChange, Journaled}
+use Rattle.alpha.specs.declared.status.BudgetKind.{BudgetKind}
 use Rattle.alpha.specs.declared.status.Refusal.{Refusal}
 use Rattle.alpha.specs.declared.status.Status.{Status}
 use Rattle.alpha.specs.declared.status.Status.TheVariants as status
-use Rattle.alpha.specs.Journals.{core_for, rules_for, AreShownLines, AreShownLinesAndOne, LinesAre, AreSpent, AreTooLarge}
+use Rattle.alpha.specs.Journals.{core_for, rules_for, AreShownLines, AreShownLinesAndOne, LinesAre, AreSpent, AreOverflow, AreTooLarge}
 use Rattle.alpha.specs.TextAnswers.{IsProgramText, IsRefusedText}
 use Rattle.alpha.specs.Promises.{Told, Counts, most_bytes, joined_text, IsRead, IsAccepted, IsRefusedFile, IsOverlong, IsTooLongOf, IsAppended, IsNoted, IsEnded, Gives}
 use Rattle.alpha.specs.Outcomes.{IsStill, WroteAll, Searched, ended, cut_off, untraced, memory, cut_off_memory}
@@ -19,7 +20,7 @@ use Rattle.alpha.specs.Outcomes.{Treated, unread, refused, searched, Outcome, us
 use Rattle.alpha.proofs.Appended.{kept_is}
 use Rattle.alpha.proofs.TextLemmas.{one_program, one_refusal, not_refused}
 use Rattle.alpha.proofs.Shown.{Shows, all_lines, shows-all, shows-lines, shows-front, have_all}
-use Rattle.alpha.proofs.Noted.{nothing_journaled, shown_lines, spent, too_large}
+use Rattle.alpha.proofs.Noted.{nothing_journaled, shown_lines, spent, overflow, too_large}
 
 -- ---- the file that was read
 
@@ -120,6 +121,7 @@ module _ (told : Told) (shelf : Counts) (sink : SinkChange) (trace : TraceChange
   ended_is (status.LimitReached printed) w = tt
   ended_is (status.BudgetSpent kind number printed) w = tt
   ended_is (status.TermTooLarge line size printed) w = tt
+  ended_is (status.Overflow line op left right printed) w = tt
   ended_is status.OutOfMemory w = tt
   ended_is status.Usage w = absurd w.ends
   ended_is (status.Refused r) w = absurd w.ends
@@ -200,19 +202,19 @@ module _ (told : Told) (shelf : Counts) (sink : SinkChange) (trace : TraceChange
         let lines = shown_lines P trace E noted j.0 j.1 in
         (lines.journal, lines.legal, lines.says)
 
-    searched_spent : (number printed : ℕ) (s : Status) → s ≡ status.BudgetSpent budget.Conflicts number printed → Searched P sink trace s → AreSpent P E number
-    searched_spent number printed s e (ended w) =
+    searched_spent : (kind : BudgetKind) (number printed : ℕ) (s : Status) → s ≡ status.BudgetSpent kind number printed → Searched P sink trace s → AreSpent P E kind number
+    searched_spent kind number printed s e (ended w) =
         let at = subst (WroteAll P sink trace) e w in
-        spent P trace E noted number (record { journal = at.journaled.journal; legal = at.journaled.legal; tells = at.journaled.tells; struck = at.ends.3; one_more = at.ends.4 })
-    searched_spent number printed s e (cut_off rose w) = absurd (cc)
-    searched_spent number printed s e (untraced rose w) = absurd (cc)
-    searched_spent number printed s e (memory w) = absurd (cc)
-    searched_spent number printed s e (cut_off_memory rose w) = absurd (cc)
+        spent P trace E noted kind number (record { journal = at.journaled.journal; legal = at.journaled.legal; tells = at.journaled.tells; used = at.ends.3; one_more = at.ends.4 })
+    searched_spent kind number printed s e (cut_off rose w) = absurd (cc)
+    searched_spent kind number printed s e (untraced rose w) = absurd (cc)
+    searched_spent kind number printed s e (memory w) = absurd (cc)
+    searched_spent kind number printed s e (cut_off_memory rose w) = absurd (cc)
 
-    came_spent : (number printed : ℕ) (s : Status) → s ≡ status.BudgetSpent budget.Conflicts number printed → Came P shelf sink trace s → AreSpent P E number
-    came_spent number printed s e (stopped kept) = absurd (cc)
-    came_spent number printed s e (not_read rose kept) = absurd (cc)
-    came_spent number printed s e (done w) = searched_spent number printed s e w
+    came_spent : (kind : BudgetKind) (number printed : ℕ) (s : Status) → s ≡ status.BudgetSpent kind number printed → Came P shelf sink trace s → AreSpent P E kind number
+    came_spent kind number printed s e (stopped kept) = absurd (cc)
+    came_spent kind number printed s e (not_read rose kept) = absurd (cc)
+    came_spent kind number printed s e (done w) = searched_spent kind number printed s e w
 
     searched_too_large : (line size printed : ℕ) (s : Status) → s ≡ status.TermTooLarge line size printed → Searched P sink trace s → AreTooLarge P E line size
     searched_too_large line size printed s e (ended w) =
@@ -227,6 +229,20 @@ module _ (told : Told) (shelf : Counts) (sink : SinkChange) (trace : TraceChange
     came_too_large line size printed s e (stopped kept) = absurd (cc)
     came_too_large line size printed s e (not_read rose kept) = absurd (cc)
     came_too_large line size printed s e (done w) = searched_too_large line size printed s e w
+
+    searched_overflow : (line : ℕ) (op : ArithOp) (left right : ℤ) (printed : ℕ) (s : Status) → s ≡ status.Overflow line op left right printed → Searched P sink trace s → AreOverflow P E line op left right
+    searched_overflow line op left right printed s e (ended w) =
+        let at = subst (WroteAll P sink trace) e w in
+        overflow P trace E noted line op left right (record { journal = at.journaled.journal; legal = at.journaled.legal; tells = at.journaled.tells; overflow = at.ends.2 })
+    searched_overflow line op left right printed s e (cut_off rose w) = absurd (cc)
+    searched_overflow line op left right printed s e (untraced rose w) = absurd (cc)
+    searched_overflow line op left right printed s e (memory w) = absurd (cc)
+    searched_overflow line op left right printed s e (cut_off_memory rose w) = absurd (cc)
+
+    came_overflow : (line : ℕ) (op : ArithOp) (left right : ℤ) (printed : ℕ) (s : Status) → s ≡ status.Overflow line op left right printed → Came P shelf sink trace s → AreOverflow P E line op left right
+    came_overflow line op left right printed s e (stopped kept) = absurd (cc)
+    came_overflow line op left right printed s e (not_read rose kept) = absurd (cc)
+    came_overflow line op left right printed s e (done w) = searched_overflow line op left right printed s e w
 
     module _ (b : List ℕ) (is : IsAppended sink.held sink.held' b) where
       -- all lines, or all but one, as the events say
@@ -249,6 +265,7 @@ module _ (told : Told) (shelf : Counts) (sink : SinkChange) (trace : TraceChange
       lines_of (status.LimitReached printed) h = h
       lines_of (status.BudgetSpent kind number printed) h = h
       lines_of (status.TermTooLarge line size printed) h = h
+      lines_of (status.Overflow line op left right printed) h = h
       lines_of status.Usage h = h
       lines_of (status.Refused r) h = h
       lines_of (status.TextTooLong name) h = h
@@ -292,11 +309,14 @@ module _ (told : Told) (shelf : Counts) (sink : SinkChange) (trace : TraceChange
     pub journal_is_legal : IsLegal (rules_for P) [] E
     journal_is_legal = came_legal told shelf sink trace P E noted s (came told shelf sink trace P asks s a o)
 
-    pub budget_is_spent : (number printed : ℕ) → s ≡ status.BudgetSpent budget.Conflicts number printed → AreSpent P E number
-    budget_is_spent number printed e = came_spent told shelf sink trace P E noted number printed s e (came told shelf sink trace P asks s a o)
+    pub budget_is_spent : (kind : BudgetKind) (number printed : ℕ) → s ≡ status.BudgetSpent kind number printed → AreSpent P E kind number
+    budget_is_spent kind number printed e = came_spent told shelf sink trace P E noted kind number printed s e (came told shelf sink trace P asks s a o)
 
     pub term_too_large : (line size printed : ℕ) → s ≡ status.TermTooLarge line size printed → AreTooLarge P E line size
     term_too_large line size printed e = came_too_large told shelf sink trace P E noted line size printed s e (came told shelf sink trace P asks s a o)
+
+    pub overflow_in_rule : (line : ℕ) (op : ArithOp) (left right : ℤ) (printed : ℕ) → s ≡ status.Overflow line op left right printed → AreOverflow P E line op left right
+    overflow_in_rule line op left right printed e = came_overflow told shelf sink trace P E noted line op left right printed s e (came told shelf sink trace P asks s a o)
 
     pub lines_are_shown_events : (b : List ℕ) → IsAppended sink.held sink.held' b → LinesAre P s E (set_lines b)
     lines_are_shown_events b is = came_lines told shelf sink trace P E noted b is s (came told shelf sink trace P asks s a o)

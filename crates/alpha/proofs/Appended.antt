@@ -5,7 +5,7 @@ use Rattle.std.proofs.KnownBytes.{Appends-nil, Appends-kept}
 use Rattle.std.proofs.lemmas.List.{append_cancel_left}
 use Rattle.alpha_outside.specs.declared.event.Event.{Event}
 use Rattle.alpha_outside.specs.Outside.{Journal}
-use Rattle.enumerator.specs.Journals.{Adds}
+use Rattle.search_journals.specs.Journals.{Adds}
 use Rattle.alpha.specs.Promises.{IsAppended, OnlyAppends, IsNoted, OnlyNotes, NameIsKept}
 
 -- ---- bytes

@@ -3,8 +3,7 @@ use Rattle.std.proofs.Common.{◌≡◌, ◌⊎◌, inl, inr, refl, sym, ap, sub
 use Rattle.std.specs.Prelude.{length}
 use Rattle.alpha_outside.specs.Outside.{FileIs}
 use Rattle.asp_syntax.specs.declared.tree.Statement.{Statement}
-use Rattle.enumerator.specs.Search.{SinkChange, TraceChange, Journaled}
-use Rattle.alpha.specs.declared.status.BudgetKind.TheVariants as budget
+use Rattle.search_journals.specs.Search.{SinkChange, TraceChange, Journaled}
 use Rattle.alpha.specs.declared.status.Status.{Status}
 use Rattle.alpha.specs.declared.status.Status.TheVariants as status
 use Rattle.alpha.specs.Journals.{core_for}
@@ -29,6 +28,7 @@ module _ (P : List Statement) (sink : SinkChange) (trace : TraceChange) where
   ended_quiet (status.LimitReached printed) w = refl
   ended_quiet (status.BudgetSpent kind number printed) w = refl
   ended_quiet (status.TermTooLarge line size printed) w = refl
+  ended_quiet (status.Overflow line op left right printed) w = refl
   ended_quiet status.Usage w = absurd w.ends
   ended_quiet (status.Refused r) w = absurd w.ends
   ended_quiet (status.TextTooLong name) w = absurd w.ends
@@ -42,9 +42,10 @@ module _ (P : List Statement) (sink : SinkChange) (trace : TraceChange) where
       → IsCaused (Some name) told shelf sink trace s
   ended_caused told shelf name of (status.Finished printed) w = (subst (λ n. n < most_sets) (sym w.ends.0) w.ends.1, (name, refl, (P, of)))
   ended_caused told shelf name of (status.LimitReached printed) w = (w.ends.0 ∙ sym w.ends.1, (name, refl, (P, of)))
-  ended_caused told shelf name of (status.BudgetSpent budget.Conflicts number printed) w =
-      (subst (λ n. n < most_sets) (sym w.ends.0) w.ends.1, w.ends.2, (name, refl, (P, of, record { journal = w.journaled.journal; legal = w.journaled.legal; tells = w.journaled.tells; struck = w.ends.3; one_more = w.ends.4 })))
-  ended_caused told shelf name of (status.BudgetSpent budget.Instances number printed) w = absurd w.ends
+  ended_caused told shelf name of (status.BudgetSpent kind number printed) w =
+      (subst (λ n. n < most_sets) (sym w.ends.0) w.ends.1, w.ends.2, (name, refl, (P, of, record { journal = w.journaled.journal; legal = w.journaled.legal; tells = w.journaled.tells; used = w.ends.3; one_more = w.ends.4 })))
+  ended_caused told shelf name of (status.Overflow line op left right printed) w =
+      (subst (λ n. n < most_sets) (sym w.ends.0) w.ends.1, (name, refl, (P, of, record { journal = w.journaled.journal; legal = w.journaled.legal; tells = w.journaled.tells; overflow = w.ends.2 })))
   ended_caused told shelf name of (status.TermTooLarge line size printed) w =
       (subst (λ n. n < most_sets) (sym w.ends.0) w.ends.1, (name, refl, (P, of, record { journal = w.journaled.journal; legal = w.journaled.legal; tells = w.journaled.tells; too_large = w.ends.2 })))
   ended_caused told shelf name of status.Usage w = absurd w.ends
@@ -113,6 +114,7 @@ module _ (P : List Statement) (sink : SinkChange) (trace : TraceChange) where
   unsearched_speaks (status.LimitReached printed) is = absurd is
   unsearched_speaks (status.BudgetSpent kind number printed) is = absurd is
   unsearched_speaks (status.TermTooLarge line size printed) is = absurd is
+  unsearched_speaks (status.Overflow line op left right printed) is = absurd is
   unsearched_speaks status.WriteFault is = absurd is
   unsearched_speaks status.TraceFault is = absurd is
   unsearched_speaks status.OutOfMemory is = absurd is

@@ -14,10 +14,10 @@ use Rattle.single_rules.specs.AnswerSets.{IsSingleAnswerSet}
 use Rattle.single_rules.specs.Splitting.{singles_of}
 use Rattle.rewriting.specs.Parts.{HasNoAggregate}
 use Rattle.rewriting.specs.CoreRules.{core_of}
-use Rattle.search_rules.specs.Stage.{IsGroundRule, IsGroundCore}
+use Rattle.search_rules.specs.Stage.{IsSearchable}
 use Rattle.alpha.specs.Built.{unbuilt}
 use Rattle.alpha.specs.Journals.{core_for}
-use Rattle.alpha.proofs.BuiltLemmas.{built_no_aggregates, built_ground}
+use Rattle.alpha.proofs.BuiltLemmas.{built_no_aggregates}
 
 module _ (P given : List Statement) (kept : given ≡ P) (built : unbuilt P ≡ None) where
   module _ (rules : List SingleRule) (split : rules ≡ singles_of given) where
@@ -33,14 +33,9 @@ module _ (P given : List Statement) (kept : given ≡ P) (built : unbuilt P ≡ 
       pub its_core : core ≡ core_for P
       its_core = rewritten ∙ ap core_of singles
 
-      -- which is ground
-      pub its_core_is_ground : IsCoreForm core → IsNamedCore core → IsGroundCore core
-      its_core_is_ground form names = record {
-        form = form;
-        names = names;
-        no_aggregates = ap (λ (k : Core). k.aggregates) its_core;
-        ground_rules = subst (λ (k : Core). Each IsGroundRule k.rules) (sym its_core) (built_ground P built);
-      }
+      -- which can be searched
+      pub its_core_is_searchable : IsCoreForm core → IsNamedCore core → IsSearchable core
+      its_core_is_searchable form names = record { form = form; names = names; no_aggregates = ap (λ (k : Core). k.aggregates) its_core }
 
       -- and has its answer sets
       pub its_answer_sets :

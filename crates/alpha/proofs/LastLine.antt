@@ -9,7 +9,7 @@ use Rattle.alpha.specs.declared.status.BudgetKind.{BudgetKind}
 use Rattle.alpha.specs.declared.status.BudgetKind.TheVariants as budget
 use Rattle.alpha.specs.declared.status.Status.{Status}
 use Rattle.alpha.specs.declared.status.Status.TheVariants as status
-use Rattle.alpha.specs.Texts.{printed_text, finished_line, limit_line, budget_line, too_large_line, last_line_of}
+use Rattle.alpha.specs.Texts.{printed_text, finished_line, limit_line, budget_line, too_large_line, overflow_line, last_line_of}
 use Rattle.alpha.specs.Promises.{HasPrinted, IsLastLine}
 
 glyph_is_no_feed : (d : ℕ) → ¬ (10 ≡ digit_glyph false d)
@@ -134,12 +134,24 @@ too_large_is_other line printed = record {
   no_feed = no_feed-append (codes "% term too large line ") (number_inner line printed) (no_feed (codes "% term too large line ") refl) (number_no_feed line printed);
 }
 
+-- of one that met an operation without a place in 64 bits
+overflow_is_other : (line printed : ℕ) → IsOtherLine (overflow_line line printed)
+unfolding has_feed
+overflow_is_other line printed = record {
+  first = 37;
+  inner = codes " overflow line " ++ number_inner line printed;
+  is = ap (λ xs. codes "% overflow line " ++ xs) (number_is line printed);
+  other = refl;
+  no_feed = no_feed-append (codes "% overflow line ") (number_inner line printed) (no_feed (codes "% overflow line ") refl) (number_no_feed line printed);
+}
+
 -- each last line has one line feed, at its end, and does not begin with `{`
 status_is_other : (n : ℕ) (s : Status) → HasPrinted n s → IsOtherLine (last_line_of s)
 status_is_other n (status.Finished printed) has = finished_is_other printed
 status_is_other n (status.LimitReached printed) has = limit_is_other printed
 status_is_other n (status.BudgetSpent kind number printed) has = budget_is_other kind number printed
 status_is_other n (status.TermTooLarge line size printed) has = too_large_is_other line printed
+status_is_other n (status.Overflow line op left right printed) has = overflow_is_other line printed
 status_is_other n status.Usage has = absurd has
 status_is_other n (status.Refused r) has = absurd has
 status_is_other n (status.TextTooLong name) has = absurd has

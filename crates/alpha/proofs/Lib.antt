@@ -1,5 +1,3 @@
-pub mod BuiltTerms
-pub mod BuiltSigns
 pub mod BuiltLemmas
 pub mod CoreLemmas
 pub mod TextLemmas

@@ -22,6 +22,7 @@ message_or_front faults faults' status.TraceFault m e front = inl e
 message_or_front faults faults' (status.LimitReached printed) m e front = inl e
 message_or_front faults faults' (status.BudgetSpent kind number printed) m e front = inl e
 message_or_front faults faults' (status.TermTooLarge line size printed) m e front = inl e
+message_or_front faults faults' (status.Overflow line op left right printed) m e front = inl e
 message_or_front faults faults' status.OutOfMemory m e front = front
 
 failed_message : (faults faults' : ℕ) (s : Status) (m : List ℕ) → Rose faults faults' → IsFront m (message_of s) → MessageIs faults faults' s m
@@ -35,6 +36,7 @@ failed_message faults faults' status.TraceFault m rose front = inr (rose, front)
 failed_message faults faults' (status.LimitReached printed) m rose front = inr (rose, front)
 failed_message faults faults' (status.BudgetSpent kind number printed) m rose front = inr (rose, front)
 failed_message faults faults' (status.TermTooLarge line size printed) m rose front = inr (rose, front)
+failed_message faults faults' (status.Overflow line op left right printed) m rose front = inr (rose, front)
 failed_message faults faults' status.OutOfMemory m rose front = front
 
 whole_is_front : (xs : List ℕ) → IsFront xs xs
@@ -68,6 +70,7 @@ no_message held faults faults' status.TraceFault m none is = absurd (cc)
 no_message held faults faults' (status.LimitReached printed) m none is = inl (same_bytes held m is)
 no_message held faults faults' (status.BudgetSpent kind number printed) m none is = inl (same_bytes held m is)
 no_message held faults faults' (status.TermTooLarge line size printed) m none is = inl (same_bytes held m is)
+no_message held faults faults' (status.Overflow line op left right printed) m none is = inl (same_bytes held m is)
 no_message held faults faults' status.OutOfMemory m none is = absurd (cc)
 
 -- nothing was written for want of memory

@@ -1,7 +1,8 @@
 -- What the events of a run tell, from the journal of its search.
-use Rattle.std.proofs.Common.{◌≡◌, inl, inr, refl, sym, ap, subst, ◌∙◌, ℕ, ◌+◌, arith, List, [], ◌∷◌, ◌++◌}
+use Rattle.std.proofs.Common.{◌≡◌, inl, inr, refl, sym, ap, subst, ◌∙◌, ℕ, ℤ, ◌+◌, arith, List, [], ◌∷◌, ◌++◌}
 use Rattle.std.specs.Prelude.{reverse}
 use Rattle.std.proofs.lemmas.List.{reverse-append}
+use Rattle.alpha_outside.specs.declared.kinds.ArithOp.{ArithOp}
 use Rattle.alpha_outside.specs.declared.event.Event as outside
 use Rattle.alpha_outside.specs.declared.event.Event.TheVariants as say
 use Rattle.asp_syntax.specs.declared.tree.Statement.{Statement}
@@ -12,10 +13,12 @@ use Rattle.search_values.specs.Instances.{Rules}
 use Rattle.core_meaning.specs.Atoms.{GroundAtom}
 use Rattle.search_rules.specs.Tests.{Maker}
 use Rattle.search_rules.specs.Rules.{Numbers, Reached}
-use Rattle.enumerator.specs.Search.{TraceChange, Journaled}
-use Rattle.enumerator.specs.Journals.{Step, Tells, strikes, AreLinesOf}
-use Rattle.alpha.specs.Journals.{core_for, rules_for, shown_sets, struck_events, AreShownLines, HasSpent, AreSpent, HasTooLarge, AreTooLarge}
+use Rattle.search_journals.specs.Search.{TraceChange, Journaled}
+use Rattle.search_journals.specs.Journals.{Step, Tells, strikes, makes, AreLinesOf}
+use Rattle.alpha.specs.Journals.{core_for, rules_for, shown_sets, struck_events, made_events, used_by, used_in, AreShownLines, HasSpent, AreSpent, HasOverflow, AreOverflow, HasTooLarge, AreTooLarge}
 use Rattle.alpha.specs.Promises.{IsNoted}
+use Rattle.alpha.specs.declared.status.BudgetKind.{BudgetKind}
+use Rattle.alpha.specs.declared.status.BudgetKind.TheVariants as budget
 use Rattle.alpha.proofs.Appended.{noted_is, adds_nothing}
 
 -- ---- event by event
@@ -66,6 +69,29 @@ struck_events-cons (say.Wide atom count) events = omega arith
 struck_events-cons (say.Shown ids) events = omega arith
 struck_events-cons (say.Passed ids) events = omega arith
 
+-- how many instances one event makes
+made_by_one : outside.Event → ℕ
+made_by_one (say.Made inst maker) = 1
+made_by_one _ = 0
+
+made_events-cons : (e : outside.Event) (events : List outside.Event) → made_events (e ∷ events) ≡ made_events events + made_by_one e
+unfolding made_by_one
+made_events-cons (say.Term id node) events = omega arith
+made_events-cons (say.Atom id pred args) events = omega arith
+made_events-cons (say.Body id inst) events = omega arith
+made_events-cons (say.Numbered atom number) events = omega arith
+made_events-cons (say.Made inst maker) events = refl
+made_events-cons (say.Put atom value by) events = omega arith
+made_events-cons (say.Chosen body up) events = omega arith
+made_events-cons (say.Closed atom) events = omega arith
+made_events-cons (say.Struck nogood) events = omega arith
+made_events-cons (say.Kept nogood) events = omega arith
+made_events-cons (say.Learned nogood how lits cover) events = omega arith
+made_events-cons (say.Back level) events = omega arith
+made_events-cons (say.Wide atom count) events = omega arith
+made_events-cons (say.Shown ids) events = omega arith
+made_events-cons (say.Passed ids) events = omega arith
+
 -- ---- the newest event
 
 list_assoc : (xs ys zs : List (List ℕ)) → (xs ++ ys) ++ zs ≡ xs ++ (ys ++ zs)
@@ -89,6 +115,14 @@ struck_events-push (e ∷ events) last =
     let first = struck_events-cons e (events ++ last ∷ []) in
     let rest = struck_events-push events last in
     let same = struck_events-cons e events in
+    omega arith
+
+made_events-push : (events : List outside.Event) (last : outside.Event) → made_events (events ++ last ∷ []) ≡ made_events events + made_by_one last
+made_events-push [] last = made_events-cons last []
+made_events-push (e ∷ events) last =
+    let first = made_events-cons e (events ++ last ∷ []) in
+    let rest = made_events-push events last in
+    let same = made_events-cons e events in
     omega arith
 
 -- ---- what one event says
@@ -140,6 +174,24 @@ module _ (rules : Rules Numbers GroundAtom Maker) where
   says_struck s (say.Shown ids) e earlier is = rw is (omega arith)
   says_struck s (say.Passed ids) e earlier is = rw is (omega arith)
 
+  says_made : (s : Reached) (last : outside.Event) (e : Step) (earlier : List Step) → Says rules s last e → makes (e ∷ earlier) ≡ makes earlier + made_by_one last
+  unfolding made_by_one
+  says_made s (say.Term id node) e earlier is = rw is.1 (omega arith)
+  says_made s (say.Atom id pred args) e earlier is = rw is.2.2 (omega arith)
+  says_made s (say.Body id inst) e earlier is = rw is.2 (omega arith)
+  says_made s (say.Numbered atom number) e earlier is = rw is.1 (omega arith)
+  says_made s (say.Made inst maker) e earlier is = rw is.1.2 refl
+  says_made s (say.Put atom value by) e earlier is = rw is (omega arith)
+  says_made s (say.Chosen body up) e earlier is = rw is (omega arith)
+  says_made s (say.Closed atom) e earlier is = rw is (omega arith)
+  says_made s (say.Struck nogood) e earlier is = rw is (omega arith)
+  says_made s (say.Kept nogood) e earlier is = absurd is
+  says_made s (say.Learned nogood how lits cover) e earlier is = elim is.1 [ inl chosen ↦ rw chosen.1 (omega arith) | inr covered ↦ rw covered.1.2 (omega arith) ]
+  says_made s (say.Back level) e earlier is = rw is (omega arith)
+  says_made s (say.Wide atom count) e earlier is = absurd is
+  says_made s (say.Shown ids) e earlier is = rw is (omega arith)
+  says_made s (say.Passed ids) e earlier is = rw is (omega arith)
+
   -- ---- a whole journal
 
   -- the sets of the `Shown` events are those that the replay has as shown
@@ -156,6 +208,18 @@ module _ (rules : Rules Numbers GroundAtom Maker) where
       ap struck_events says.2
       ∙ (struck_events-push says.0 says.1
       ∙ (ap (λ n. n + struck_by says.1) (struck_is says.0 earlier says.3) ∙ sym (says_struck (replay rules earlier) says.1 e earlier says.4)))
+
+  made_is : (E : List outside.Event) (journal : List Step) → SaysAll rules E journal → made_events E ≡ makes journal
+  made_is E [] says = ap made_events says
+  made_is E (e ∷ earlier) says =
+      ap made_events says.2
+      ∙ (made_events-push says.0 says.1
+      ∙ (ap (λ n. n + made_by_one says.1) (made_is says.0 earlier says.3) ∙ sym (says_made (replay rules earlier) says.1 e earlier says.4)))
+
+  -- so the events used as much of a budget as the journal did
+  used_is : (kind : BudgetKind) (E : List outside.Event) (journal : List Step) → SaysAll rules E journal → used_by kind E ≡ used_in kind journal
+  used_is budget.Conflicts E journal says = struck_is E journal says
+  used_is budget.Instances E journal says = made_is E journal says
 
 -- ---- of a run
 
@@ -184,14 +248,14 @@ module _ (P : List Statement) (trace : TraceChange) where
           lines_are = subst (λ sets. AreLinesOf (replay (rules_for P) j.journal) sets lines) (sym (shown_is (rules_for P) E j.journal says)) j.shown;
         }
 
-    pub spent : (number : ℕ) → HasSpent P trace number → AreSpent P E number
-    spent number h =
+    pub spent : (kind : BudgetKind) (number : ℕ) → HasSpent P trace kind number → AreSpent P E kind number
+    spent kind number h =
         let says = said h.journal h.tells in
         record {
           journal = h.journal;
           legal = h.legal;
           says = says;
-          count = struck_is (rules_for P) E h.journal says ∙ h.struck;
+          count = used_is (rules_for P) kind E h.journal says ∙ h.used;
           one_more = h.one_more;
         }
 
@@ -201,4 +265,12 @@ module _ (P : List Statement) (trace : TraceChange) where
       legal = h.legal;
       says = said h.journal h.tells;
       too_large = h.too_large;
+    }
+
+    pub overflow : (line : ℕ) (op : ArithOp) (left right : ℤ) → HasOverflow P trace line op left right → AreOverflow P E line op left right
+    overflow line op left right h = record {
+      journal = h.journal;
+      legal = h.legal;
+      says = said h.journal h.tells;
+      overflow = h.overflow;
     }

@@ -7,8 +7,7 @@ use Rattle.asp_meaning.specs.Output.{set_lines, IsAnswerSetLine, IsBraceLine, Ar
 use Rattle.asp_meaning.proofs.LineLemmas.{IsOtherLine, set_lines-concat, set_lines-take, set_lines-other}
 use Rattle.lists.proofs.ListLemmas.{Each-append, ∈-append_cases}
 use Rattle.lists.specs.Lists.{◌∈◌}
-use Rattle.enumerator.specs.Search.{SinkChange, TraceChange, Journaled}
-use Rattle.alpha.specs.declared.status.BudgetKind.TheVariants as budget
+use Rattle.search_journals.specs.Search.{SinkChange, TraceChange, Journaled}
 use Rattle.alpha.specs.declared.status.Status.{Status}
 use Rattle.alpha.specs.declared.status.Status.TheVariants as status
 use Rattle.alpha.specs.Texts.{last_line_of}
@@ -49,9 +48,9 @@ once-push (y ∷ ys) x once new = (
 pub printed_all : (P : List Statement) (sink : SinkChange) (trace : TraceChange) (s : Status) (w : WroteAll P sink trace s) → HasPrinted (length w.lines) s
 printed_all P sink trace (status.Finished printed) w = w.ends.0
 printed_all P sink trace (status.LimitReached printed) w = w.ends.0
-printed_all P sink trace (status.BudgetSpent budget.Conflicts number printed) w = w.ends.0
-printed_all P sink trace (status.BudgetSpent budget.Instances number printed) w = absurd w.ends
+printed_all P sink trace (status.BudgetSpent kind number printed) w = w.ends.0
 printed_all P sink trace (status.TermTooLarge line size printed) w = w.ends.0
+printed_all P sink trace (status.Overflow line op left right printed) w = w.ends.0
 printed_all P sink trace status.Usage w = absurd w.ends
 printed_all P sink trace (status.Refused r) w = absurd w.ends
 printed_all P sink trace (status.TextTooLong name) w = absurd w.ends
@@ -154,9 +153,9 @@ module _ (P : List Statement) (sink : SinkChange) (trace : TraceChange) (b : Lis
   pub ended_output : (s : Status) → WroteAll P sink trace s → OutputIs sink.faults sink.faults' s b
   ended_output (status.Finished printed) w = whole_output (status.Finished printed) printed w w.ends.0
   ended_output (status.LimitReached printed) w = whole_output (status.LimitReached printed) printed w w.ends.0
-  ended_output (status.BudgetSpent budget.Conflicts number printed) w = whole_output (status.BudgetSpent budget.Conflicts number printed) printed w w.ends.0
-  ended_output (status.BudgetSpent budget.Instances number printed) w = absurd w.ends
+  ended_output (status.BudgetSpent kind number printed) w = whole_output (status.BudgetSpent kind number printed) printed w w.ends.0
   ended_output (status.TermTooLarge line size printed) w = whole_output (status.TermTooLarge line size printed) printed w w.ends.0
+  ended_output (status.Overflow line op left right printed) w = whole_output (status.Overflow line op left right printed) printed w w.ends.0
   ended_output status.Usage w = absurd w.ends
   ended_output (status.Refused r) w = absurd w.ends
   ended_output (status.TextTooLong name) w = absurd w.ends

@@ -9,12 +9,12 @@ use Rattle.alpha_outside.specs.Outside.{Rose}
 use Rattle.asp_syntax.specs.declared.tree.Statement.{Statement}
 use Rattle.asp_meaning.specs.Output.{IsAnswerSetLine, AreAnswerSetLines, HaveAll}
 use Rattle.core_rules.specs.declared.rules.Core.{Core}
-use Rattle.enumerator.specs.Journals.{Step}
-use Rattle.enumerator.specs.Search as search
-use Rattle.enumerator.specs.Search.{SinkChange, TraceChange, IsCoreSetLine, AreCoreSetLines, HaveAllOf, EndIs}
-use Rattle.enumerator.specs.declared.answers.Settings.{Settings}
-use Rattle.enumerator.specs.declared.answers.End.{End}
-use Rattle.enumerator.specs.declared.answers.End.TheVariants.{Finished, LimitReached, Conflicts, TermTooLarge}
+use Rattle.search_journals.specs.Journals.{Step}
+use Rattle.search_journals.specs.Search as search
+use Rattle.search_journals.specs.Search.{SinkChange, TraceChange, IsCoreSetLine, AreCoreSetLines, HaveAllOf, EndIs}
+use Rattle.search_journals.specs.declared.ends.Settings.{Settings}
+use Rattle.search_journals.specs.declared.ends.End.{End}
+use Rattle.search_journals.specs.declared.ends.End.TheVariants.{Finished, LimitReached, Conflicts, Instances, Overflow, TermTooLarge}
 use Rattle.alpha.specs.Journals.{core_for}
 use Rattle.alpha.specs.Texts.{last_line_of}
 use Rattle.alpha.specs.Promises.{HasPrinted}
@@ -24,6 +24,8 @@ has_printed : (core : Core) (lines : List (List ℕ)) (journal : List Step) (e :
 has_printed core lines journal (Finished printed) is = is.0
 has_printed core lines journal (LimitReached printed) is = is.0
 has_printed core lines journal (Conflicts printed) is = is.0
+has_printed core lines journal (Instances printed) is = is.0
+has_printed core lines journal (Overflow line op left right printed) is = is.0
 has_printed core lines journal (TermTooLarge line size printed) is = is.0
 
 module _ (P : List Statement) (core : Core) (of : IsCoreOf P core) where
@@ -43,6 +45,8 @@ module _ (P : List Statement) (core : Core) (of : IsCoreOf P core) where
   ends_as lines journal (Finished printed) is = (is.0, is.1.sets, all_lines lines is.2)
   ends_as lines journal (LimitReached printed) is = (is.0, is.1)
   ends_as lines journal (Conflicts printed) is = (is.0, is.1.sets, refl, is.2, is.3)
+  ends_as lines journal (Instances printed) is = (is.0, is.1.sets, refl, is.2, is.3)
+  ends_as lines journal (Overflow line op left right printed) is = (is.0, is.1.sets, is.2)
   ends_as lines journal (TermTooLarge line size printed) is = (is.0, is.1.sets, is.2)
 
   -- ---- what was written

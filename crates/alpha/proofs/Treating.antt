@@ -2,7 +2,7 @@
 use Rattle.std.proofs.Common.{refl, ℕ, ◌+◌, List, Option, Some}
 use Rattle.std.proofs.KnownBytes.{Keeps-refl}
 use Rattle.alpha_outside.specs.Outside.{Rose, RoseBy, Journal}
-use Rattle.enumerator.specs.Search.{SinkChange, TraceChange}
+use Rattle.search_journals.specs.Search.{SinkChange, TraceChange}
 use Rattle.alpha.specs.TextAnswers.{IsStopOf}
 use Rattle.alpha.specs.Promises.{Told, Counts, most_bytes, IsTooLongOf}
 use Rattle.alpha.specs.Outcomes.{IsStill, Treated, unread, refused, Outcome, no_memory, too_long, unreadable, IsReadFaultOf, IsTextTooLongOf}
@@ -27,6 +27,7 @@ stopped text sink trace status.TraceFault is kept = absurd is
 stopped text sink trace (status.LimitReached printed) is kept = absurd is
 stopped text sink trace (status.BudgetSpent kind number printed) is kept = absurd is
 stopped text sink trace (status.TermTooLarge line size printed) is kept = absurd is
+stopped text sink trace (status.Overflow line op left right printed) is kept = absurd is
 
 module _ (told : Told) (shelf : Counts) (sink : SinkChange) (trace : TraceChange) where
   -- a file that can't be read
@@ -42,6 +43,7 @@ module _ (told : Told) (shelf : Counts) (sink : SinkChange) (trace : TraceChange
   not_read name (status.LimitReached printed) is rose kept = absurd is
   not_read name (status.BudgetSpent kind number printed) is rose kept = absurd is
   not_read name (status.TermTooLarge line size printed) is rose kept = absurd is
+  not_read name (status.Overflow line op left right printed) is rose kept = absurd is
 
   -- a file that is too long
   pub overlong : (name : List ℕ) (s : Status) → IsTextTooLongOf name s → RoseBy (most_bytes + 1) shelf.taken shelf.taken' → IsTooLongOf told name → IsStill sink trace → Outcome told shelf sink trace (Some name) s
@@ -56,3 +58,4 @@ module _ (told : Told) (shelf : Counts) (sink : SinkChange) (trace : TraceChange
   overlong name (status.LimitReached printed) is rose long_file kept = absurd is
   overlong name (status.BudgetSpent kind number printed) is rose long_file kept = absurd is
   overlong name (status.TermTooLarge line size printed) is rose long_file kept = absurd is
+  overlong name (status.Overflow line op left right printed) is rose long_file kept = absurd is

@@ -1,5 +1,6 @@
 -- What the events that a run notes say, and what was written with them.
-use Rattle.std.specs.Prelude.{◌≡◌, ◌⊎◌, ◌+◌, ℕ, List, [], ◌∷◌, ◌++◌}
+use Rattle.std.specs.Prelude.{◌≡◌, ◌⊎◌, ◌+◌, ℕ, ℤ, List, [], ◌∷◌, ◌++◌}
+use Rattle.alpha_outside.specs.declared.kinds.ArithOp.{ArithOp}
 use Rattle.alpha_outside.specs.declared.event.Event.{Event}
 use Rattle.alpha_outside.specs.declared.event.Event.TheVariants as event
 use Rattle.asp_syntax.specs.declared.tree.Statement.{Statement}
@@ -10,10 +11,12 @@ use Rattle.search_values.specs.Instances.{Rules}
 use Rattle.search_theory.specs.Journals.{Legal, SaysAll, replay}
 use Rattle.core_meaning.specs.Atoms.{GroundAtom}
 use Rattle.search_rules.specs.Tests.{Maker}
-use Rattle.search_rules.specs.Rules.{Numbers, search_rules}
-use Rattle.search_rules.specs.Faults.{IsTooLarge}
-use Rattle.enumerator.specs.Search.{TraceChange}
-use Rattle.enumerator.specs.Journals.{Step, Tells, strikes, SomeStruck, AreLinesOf}
+use Rattle.search_rules.specs.Rules.{Numbers, Reached, search_rules}
+use Rattle.search_rules.specs.Faults.{IsOverflow, IsTooLarge}
+use Rattle.search_journals.specs.Search.{TraceChange}
+use Rattle.search_journals.specs.Journals.{Step, Tells, strikes, makes, SomeStruck, IsSomeDue, AreLinesOf}
+use Rattle.alpha.specs.declared.status.BudgetKind.{BudgetKind}
+use Rattle.alpha.specs.declared.status.BudgetKind.TheVariants as budget
 use Rattle.alpha.specs.declared.status.Status.{Status}
 use Rattle.alpha.specs.declared.status.Status.TheVariants as status
 
@@ -41,6 +44,12 @@ struck_events [] = 0
 struck_events (event.Struck nogood ∷ more) = struck_events more + 1
 struck_events (_ ∷ more) = struck_events more
 
+-- how many `Made` events there are
+abbrev pub made_events : List Event → ℕ
+made_events [] = 0
+made_events (event.Made inst maker ∷ more) = made_events more + 1
+made_events (_ ∷ more) = made_events more
+
 -- ---- lines
 
 -- the events are a legal journal for the program, and the lines are those of its `Shown` events, in order
@@ -61,23 +70,39 @@ LinesAre P status.TraceFault E lines = AreShownLines P E lines ⊎ AreShownLines
 LinesAre P status.OutOfMemory E lines = AreShownLines P E lines ⊎ AreShownLinesAndOne P E lines
 LinesAre P s E lines = AreShownLines P E lines
 
--- ---- the budget of conflicts
+-- ---- budgets
 
--- a legal journal was told of a program, in which so many nogoods were struck, and one more is struck after it
-pub record HasSpent (P : List Statement) (trace : TraceChange) (number : ℕ) : Type 0 where
+-- how much of this budget the events used: nogoods that were struck, or instances that were made
+abbrev pub used_by : BudgetKind → List Event → ℕ
+used_by budget.Conflicts E = struck_events E
+used_by budget.Instances E = made_events E
+
+-- the same of a journal
+abbrev pub used_in : BudgetKind → List Step → ℕ
+used_in budget.Conflicts journal = strikes journal
+used_in budget.Instances journal = makes journal
+
+-- the search would have to use more: a nogood is struck, or an instance is due that isn't made
+abbrev pub HasOneMore : BudgetKind → Core → Reached → Type 0
+HasOneMore budget.Conflicts core s = SomeStruck s
+HasOneMore budget.Instances core s = IsSomeDue core s
+
+-- a legal journal was told of a program, in which so much of this budget was used, and one more would have to be after it
+pub record HasSpent (P : List Statement) (trace : TraceChange) (kind : BudgetKind) (number : ℕ) : Type 0 where
   pub journal : List Step
   pub legal : Legal (rules_for P) [] journal
   pub tells : Tells (core_for P) trace.told trace.told' journal
-  pub struck : strikes journal ≡ number
-  pub one_more : SomeStruck (replay (rules_for P) journal)
+  pub used : used_in kind journal ≡ number
+  pub one_more : HasOneMore kind (core_for P) (replay (rules_for P) journal)
 
--- the events are a legal journal for the program with so many `Struck` events, and one more nogood is struck in its replay
-pub record AreSpent (P : List Statement) (E : List Event) (number : ℕ) : Type 0 where
+-- the events are a legal journal for the program with so many `Struck` events, and one more nogood is struck in its replay; or with so many `Made`
+-- events, and an instance that is due isn't made in its replay
+pub record AreSpent (P : List Statement) (E : List Event) (kind : BudgetKind) (number : ℕ) : Type 0 where
   pub journal : List Step
   pub legal : Legal (rules_for P) [] journal
   pub says : SaysAll (rules_for P) E journal
-  pub count : struck_events E ≡ number
-  pub one_more : SomeStruck (replay (rules_for P) journal)
+  pub count : used_by kind E ≡ number
+  pub one_more : HasOneMore kind (core_for P) (replay (rules_for P) journal)
 
 -- ---- a term that is too large
 
@@ -94,3 +119,19 @@ pub record AreTooLarge (P : List Statement) (E : List Event) (line size : ℕ) :
   pub legal : Legal (rules_for P) [] journal
   pub says : SaysAll (rules_for P) E journal
   pub too_large : IsTooLarge (core_for P) (replay (rules_for P) journal) line size
+
+-- ---- an operation that has no place in 64 bits
+
+-- a legal journal was told of a program, after which an operation of a rule of this line has these operands, and no result in 64 bits
+pub record HasOverflow (P : List Statement) (trace : TraceChange) (line : ℕ) (op : ArithOp) (left right : ℤ) : Type 0 where
+  pub journal : List Step
+  pub legal : Legal (rules_for P) [] journal
+  pub tells : Tells (core_for P) trace.told trace.told' journal
+  pub overflow : IsOverflow (core_for P) (replay (rules_for P) journal) line op left right
+
+-- the events are a legal journal for the program, in whose replay an operation of a rule of this line is so
+pub record AreOverflow (P : List Statement) (E : List Event) (line : ℕ) (op : ArithOp) (left right : ℤ) : Type 0 where
+  pub journal : List Step
+  pub legal : Legal (rules_for P) [] journal
+  pub says : SaysAll (rules_for P) E journal
+  pub overflow : IsOverflow (core_for P) (replay (rules_for P) journal) line op left right

@@ -10,16 +10,16 @@ use Rattle.asp_meaning.specs.Output.{IsAnswerSetLine, IsBraceLine, AreAnswerSetL
 use Rattle.search_theory.specs.Journals.{replay}
 use Rattle.core_rules.specs.declared.rules.Core.{Core}
 use Rattle.core_meaning.specs.AnswerSets.{HasCoreSets}
-use Rattle.search_rules.specs.Faults.{IsTooLarge}
-use Rattle.enumerator.specs.Journals.{Step, strikes, SomeStruck}
-use Rattle.enumerator.specs.Search.{SinkChange, TraceChange, Journaled}
-use Rattle.enumerator.specs.declared.answers.End.{End}
-use Rattle.enumerator.specs.declared.answers.End.TheVariants as end
-use Rattle.enumerator.specs.declared.answers.Settings.{Settings}
-use Rattle.alpha.specs.Journals.{core_for, rules_for}
+use Rattle.search_rules.specs.Faults.{IsOverflow, IsTooLarge}
+use Rattle.search_journals.specs.Journals.{Step}
+use Rattle.search_journals.specs.Search.{SinkChange, TraceChange, Journaled}
+use Rattle.search_journals.specs.declared.ends.End.{End}
+use Rattle.search_journals.specs.declared.ends.End.TheVariants as end
+use Rattle.search_journals.specs.declared.ends.Settings.{Settings}
+use Rattle.alpha.specs.Journals.{core_for, rules_for, used_in, HasOneMore}
 use Rattle.alpha.specs.Texts.{last_line_of}
 use Rattle.alpha.specs.TextAnswers.{IsProgramText, IsRefusedText}
-use Rattle.alpha.specs.Promises.{Told, Counts, most_bytes, most_sets, most_conflicts, most_instances, joined_text, IsTooLongOf, IsLastLine}
+use Rattle.alpha.specs.Promises.{Told, Counts, most_bytes, most_sets, most_conflicts, most_instances, most_of, joined_text, IsTooLongOf, IsLastLine}
 use Rattle.alpha.specs.declared.status.BudgetKind.TheVariants as budget
 use Rattle.alpha.specs.declared.status.Refusal.{Refusal}
 use Rattle.alpha.specs.declared.status.Status.{Status}
@@ -46,14 +46,18 @@ abbrev pub status_of : End → Status
 status_of (end.Finished printed) = status.Finished printed
 status_of (end.LimitReached printed) = status.LimitReached printed
 status_of (end.Conflicts printed) = status.BudgetSpent budget.Conflicts most_conflicts printed
+status_of (end.Instances printed) = status.BudgetSpent budget.Instances most_instances printed
+status_of (end.Overflow line op left right printed) = status.Overflow line op left right printed
 status_of (end.TermTooLarge line size printed) = status.TermTooLarge line size printed
 
 -- how a run ends by itself, after these lines and this journal: at the limit exactly where as many lines were written
 abbrev pub EndsAs : List Statement → List (List ℕ) → List Step → Status → Type 0
 EndsAs P lines journal (status.Finished printed) = (printed ≡ length lines) × (length lines < most_sets) × HaveAll P lines
 EndsAs P lines journal (status.LimitReached printed) = (printed ≡ length lines) × (most_sets ≡ length lines)
-EndsAs P lines journal (status.BudgetSpent budget.Conflicts number printed) =
-    (printed ≡ length lines) × (length lines < most_sets) × (number ≡ most_conflicts) × (strikes journal ≡ number) × SomeStruck (replay (rules_for P) journal)
+EndsAs P lines journal (status.BudgetSpent kind number printed) =
+    (printed ≡ length lines) × (length lines < most_sets) × (number ≡ most_of kind) × (used_in kind journal ≡ number) × HasOneMore kind (core_for P) (replay (rules_for P) journal)
+EndsAs P lines journal (status.Overflow line op left right printed) =
+    (printed ≡ length lines) × (length lines < most_sets) × IsOverflow (core_for P) (replay (rules_for P) journal) line op left right
 EndsAs P lines journal (status.TermTooLarge line size printed) =
     (printed ≡ length lines) × (length lines < most_sets) × IsTooLarge (core_for P) (replay (rules_for P) journal) line size
 EndsAs P lines journal _ = ⊥

@@ -6,10 +6,11 @@ use Rattle.alpha_outside.specs.Outside.{Rose, RoseBy, Journal}
 use Rattle.asp_syntax.specs.declared.tree.Statement.{Statement}
 use Rattle.asp_meaning.specs.Atoms.{Atom}
 use Rattle.asp_meaning.specs.Lines.{IsSetLine}
-use Rattle.enumerator.specs.Search.{SinkChange, TraceChange}
+use Rattle.search_journals.specs.Search.{SinkChange, TraceChange}
 use Rattle.alpha.specs.TextAnswers.{IsProgramText, IsRefusedText}
 use Rattle.alpha.specs.Texts.{last_line_of, message_of}
-use Rattle.alpha.specs.Journals.{HasSpent, HasTooLarge}
+use Rattle.alpha.specs.Journals.{HasSpent, HasOverflow, HasTooLarge}
+use Rattle.alpha.specs.declared.status.BudgetKind.{BudgetKind}
 use Rattle.alpha.specs.declared.status.BudgetKind.TheVariants as budget
 use Rattle.alpha.specs.declared.status.Refusal.{Refusal}
 use Rattle.alpha.specs.declared.status.Status.{Status}
@@ -85,6 +86,11 @@ IsRefusedOf told name refusal = IsTextOf told name (λ text. IsRefusedText text 
 abbrev pub IsTooLongOf : Told → List ℕ → Type 0
 IsTooLongOf told name = IfSome told (λ files. (bytes : List ℕ) × (files name ≡ Some bytes) × (most_bytes < length bytes))
 
+-- the most of what a budget counts
+abbrev pub most_of : BudgetKind → ℕ
+most_of budget.Conflicts = most_conflicts
+most_of budget.Instances = most_instances
+
 -- ---- what is written
 
 -- the sink tells its bytes, and these were appended
@@ -118,6 +124,7 @@ HasPrinted n (status.Finished printed) = printed ≡ n
 HasPrinted n (status.LimitReached printed) = printed ≡ n
 HasPrinted n (status.BudgetSpent kind number printed) = printed ≡ n
 HasPrinted n (status.TermTooLarge line size printed) = printed ≡ n
+HasPrinted n (status.Overflow line op left right printed) = printed ≡ n
 HasPrinted n _ = ⊥
 
 -- a last line that says so many
@@ -139,6 +146,7 @@ OutputIs faults faults' (status.Finished printed) b = IsWholeOutput (status.Fini
 OutputIs faults faults' (status.LimitReached printed) b = IsWholeOutput (status.LimitReached printed) printed b
 OutputIs faults faults' (status.BudgetSpent kind number printed) b = IsWholeOutput (status.BudgetSpent kind number printed) printed b
 OutputIs faults faults' (status.TermTooLarge line size printed) b = IsWholeOutput (status.TermTooLarge line size printed) printed b
+OutputIs faults faults' (status.Overflow line op left right printed) b = IsWholeOutput (status.Overflow line op left right printed) printed b
 OutputIs faults faults' status.WriteFault b = IsCutOutput b
 OutputIs faults faults' status.TraceFault b = IsSetLines b
 OutputIs faults faults' status.OutOfMemory b = IsSetLines b ⊎ (Rose faults faults' × IsCutOutput b)
@@ -186,6 +194,7 @@ IsEnded (status.Finished printed) = Unit {0}
 IsEnded (status.LimitReached printed) = Unit {0}
 IsEnded (status.BudgetSpent kind number printed) = Unit {0}
 IsEnded (status.TermTooLarge line size printed) = Unit {0}
+IsEnded (status.Overflow line op left right printed) = Unit {0}
 IsEnded status.OutOfMemory = Unit {0}
 IsEnded _ = ⊥
 
@@ -211,14 +220,14 @@ abbrev pub IsOfProgram : Option (List ℕ) → Told → Type 0
 IsOfProgram asks told = (name : List ℕ) × (asks ≡ Some name) × ((P : List Statement) × IsProgramOf told name P)
 
 -- Each status but want of memory comes only by its cause: for the words, the told files, and the shelf, the output's sink and the trace
--- before and after the run. A search that ends by itself reaches the limit exactly where it wrote as many sets. No budget of instances
--- can be spent, since a file that may be read has fewer statements.
+-- before and after the run. A search that ends by itself reaches the limit exactly where it wrote as many sets.
 abbrev pub IsCaused : Option (List ℕ) → Told → Counts → SinkChange → TraceChange → Status → Type 0
 IsCaused asks told shelf sink trace (status.Finished printed) = (printed < most_sets) × IsOfProgram asks told
 IsCaused asks told shelf sink trace (status.LimitReached printed) = (printed ≡ most_sets) × IsOfProgram asks told
-IsCaused asks told shelf sink trace (status.BudgetSpent budget.Conflicts number printed) =
-    (printed < most_sets) × (number ≡ most_conflicts) × ((name : List ℕ) × (asks ≡ Some name) × ((P : List Statement) × IsProgramOf told name P × HasSpent P trace number))
-IsCaused asks told shelf sink trace (status.BudgetSpent budget.Instances number printed) = ⊥
+IsCaused asks told shelf sink trace (status.BudgetSpent kind number printed) =
+    (printed < most_sets) × (number ≡ most_of kind) × ((name : List ℕ) × (asks ≡ Some name) × ((P : List Statement) × IsProgramOf told name P × HasSpent P trace kind number))
+IsCaused asks told shelf sink trace (status.Overflow line op left right printed) =
+    (printed < most_sets) × ((name : List ℕ) × (asks ≡ Some name) × ((P : List Statement) × IsProgramOf told name P × HasOverflow P trace line op left right))
 IsCaused asks told shelf sink trace (status.TermTooLarge line size printed) =
     (printed < most_sets) × ((name : List ℕ) × (asks ≡ Some name) × ((P : List Statement) × IsProgramOf told name P × HasTooLarge P trace line size))
 IsCaused asks told shelf sink trace status.Usage = asks ≡ None

@@ -21,6 +21,7 @@ code_of status.OutOfMemory = 9
 code_of (status.LimitReached printed) = 10
 code_of (status.BudgetSpent kind number printed) = 11
 code_of (status.TermTooLarge line size printed) = 13
+code_of (status.Overflow line op left right printed) = 12
 
 -- ---- the last line
 
@@ -41,12 +42,16 @@ budget_line budget.Instances number printed = codes "% budget instances " ++ (de
 abbrev pub too_large_line : ℕ → ℕ → List ℕ
 too_large_line line printed = codes "% term too large line " ++ (decimal line ++ (codes ", " ++ printed_text printed))
 
+abbrev pub overflow_line : ℕ → ℕ → List ℕ
+overflow_line line printed = codes "% overflow line " ++ (decimal line ++ (codes ", " ++ printed_text printed))
+
 -- the last line on the output, where the status has one
 abbrev pub last_line_of : Status → List ℕ
 last_line_of (status.Finished printed) = finished_line printed
 last_line_of (status.LimitReached printed) = limit_line printed
 last_line_of (status.BudgetSpent kind number printed) = budget_line kind number printed
 last_line_of (status.TermTooLarge line size printed) = too_large_line line printed
+last_line_of (status.Overflow line op left right printed) = overflow_line line printed
 last_line_of _ = []
 
 -- ---- the message
@@ -79,6 +84,7 @@ has_message (status.Finished printed) = false
 has_message (status.LimitReached printed) = false
 has_message (status.BudgetSpent kind number printed) = false
 has_message (status.TermTooLarge line size printed) = false
+has_message (status.Overflow line op left right printed) = false
 has_message _ = true
 
 -- the message, where the status has one
@@ -87,6 +93,7 @@ message_of (status.Finished printed) = []
 message_of (status.LimitReached printed) = []
 message_of (status.BudgetSpent kind number printed) = []
 message_of (status.TermTooLarge line size printed) = []
+message_of (status.Overflow line op left right printed) = []
 message_of status.Usage = codes "alpha: usage: alpha solve [--after FILE] [--limit N] [--conflicts N] [--instances N] [--trace FILE] FILE... or alpha sample SEED N" ++ (10 ∷ [])
 message_of (status.Refused r) = refusal_message r
 message_of (status.TextTooLong name) = around (codes "alpha: ") name (codes " is too long")

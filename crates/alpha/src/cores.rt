@@ -7,7 +7,7 @@ ghost use Rattle.asp_meaning.specs.Atoms.{Atom as Fact};
 ghost use Rattle.asp_meaning.specs.Programs.{IsAnswerSet};
 ghost use Rattle.asp_safety.specs.Faults.{IsAccepted};
 ghost use Rattle.core_meaning.specs.AnswerSets.{HasCoreSets};
-ghost use Rattle.search_rules.specs.Stage.{IsGroundCore};
+ghost use Rattle.search_rules.specs.Stage.{IsSearchable};
 ghost use Rattle.alpha.specs.Built.{unbuilt};
 ghost use Rattle.alpha.specs.Journals.{core_for};
 ghost use Rattle.alpha.specs.TextAnswers.{safety_status, IsFaultOf};
@@ -40,7 +40,7 @@ pub fn core_for(alloc: Global, program: Program) -> Result<Core, Status>
     requires well_formed { IsWellFormedProgram program }
     requires built { unbuilt program.statements ≡ None }
     ensures core { IfOk result (λ core. core ≡ core_for program.statements) }
-    ensures ground { IfOk result IsGroundCore }
+    ensures searchable { IfOk result IsSearchable }
     ensures accepted { OnOk result (IsAccepted program.statements) }
     ensures answer_sets { OnOk result ((I : List Fact) → HasNoRepeats I → IsAnswerSet program.statements I ↔ HasCoreSets (core_for program.statements) I) }
     ensures stop { IfErr result (IsFaultOf program.statements) }

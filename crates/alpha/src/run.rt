@@ -1,16 +1,17 @@
 //! The whole of what the program does: words and files in, bytes, events and a status out.
 
-ghost use Rattle.std.specs.Prelude.{◌≡◌, ◌⊎◌, ◌≤◌, None, true, map, string_bytes, ℕ, List, [], length};
+ghost use Rattle.std.specs.Prelude.{◌≡◌, ◌⊎◌, ◌≤◌, None, true, map, string_bytes, ℕ, ℤ, List, [], length};
+ghost use Rattle.alpha_outside.specs.declared.kinds.ArithOp.{ArithOp as Operation};
 ghost use Rattle.lists.specs.Lists.{Each, HasNoRepeats};
 ghost use Rattle.alpha_outside.specs.declared.event.Event.{Event};
 ghost use Rattle.alpha_outside.specs.Outside.{Rose};
 ghost use Rattle.asp_syntax.specs.declared.tree.Statement.{Statement as Rule};
 ghost use Rattle.asp_meaning.specs.Output.{set_lines, IsAnswerSetLine, HaveAll};
 ghost use Rattle.search_theory.specs.Journals.{IsLegal};
-ghost use Rattle.search_rules.specs.Stage.{IsGroundCore};
+ghost use Rattle.search_rules.specs.Stage.{IsSearchable};
 ghost use Rattle.alpha.specs.Words.{asked};
 ghost use Rattle.alpha.specs.Texts.{has_message};
-ghost use Rattle.alpha.specs.Journals.{rules_for, LinesAre, AreSpent, AreTooLarge};
+ghost use Rattle.alpha.specs.Journals.{rules_for, LinesAre, AreSpent, AreOverflow, AreTooLarge};
 ghost use Rattle.alpha.specs.Promises.{IsAccepted, IsRefusedFile, IsOverlong, IsAppended, OnlyAppends, OutputIs, MessageIs, IsNoted, OnlyNotes, NameIsKept};
 ghost use Rattle.alpha.specs.Promises.{IsUnsearched, IsEnded, IsRefusedWords, IsCaused, Gives, Counts, joined_text};
 ghost use Rattle.alpha.specs.Outcomes.{IsCoreOf, Searched, Treated, Outcome, defaults, status_of, IsReadFaultOf, IsTextTooLongOf};
@@ -60,6 +61,24 @@ fn ended(end: End) -> Status
             number: MOST_CONFLICTS,
             printed,
         },
+        End::Instances { printed } => Status::BudgetSpent {
+            budget: BudgetKind::Instances,
+            number: MOST_INSTANCES,
+            printed,
+        },
+        End::Overflow {
+            line,
+            op,
+            left,
+            right,
+            printed,
+        } => Status::Overflow {
+            line,
+            op,
+            left,
+            right,
+            printed,
+        },
         End::TermTooLarge {
             line,
             size,
@@ -74,7 +93,7 @@ fn ended(end: End) -> Status
 
 // Writes the answer sets and the last line, and notes the events.
 fn solve<O: Sink, T: Trace>(alloc: Global, core: Core, out: &mut O, trace: &mut T) -> Status
-    requires { IsGroundCore core }
+    requires { IsSearchable core }
     ensures out_later { O.faults out.old ≤ O.faults out.new }
     ensures trace_later { T.faults trace.old ≤ T.faults trace.new }
     ensures searched { (P : List Rule) → IsCoreOf P core → Searched P
@@ -225,10 +244,18 @@ pub fn run<F: Shelf, O: Sink, E: Sink, T: Trace>(
         → IsAppended (O.held out.old) (O.held out.new) b → IsNoted (T.journal trace.old) (T.journal trace.new) E
         → LinesAre P result E (set_lines b) }
 
-    // Where the budget of conflicts is spent, so many nogoods were struck, and one more is.
-    ensures budget_is_spent { (P : List Rule) (E : List Event) (number printed : ℕ) → IsAccepted (asked (map string_bytes words.now)) (F.files shelf.old) P
-        → IsNoted (T.journal trace.old) (T.journal trace.new) E → result ≡ Status.BudgetSpent BudgetKind.Conflicts number printed
-        → AreSpent P E number }
+    // Where the budget of conflicts is spent, so many nogoods were struck, and one more is; where that of instances is, so many were made,
+    // and one more is due.
+    ensures budget_is_spent { (P : List Rule) (E : List Event) (kind : BudgetKind) (number printed : ℕ) → IsAccepted (asked (map string_bytes words.now)) (F.files shelf.old) P
+        → IsNoted (T.journal trace.old) (T.journal trace.new) E → result ≡ Status.BudgetSpent kind number printed
+        → AreSpent P E kind number }
+
+    // Where an operation has no place in 64 bits, it stands in a rule of this line and has these operands, where all positive atoms of the rule
+    // are true or must-be-true.
+    ensures overflow_in_rule { (P : List Rule) (E : List Event) (line : ℕ) (op : Operation) (left right : ℤ) (printed : ℕ)
+        → IsAccepted (asked (map string_bytes words.now)) (F.files shelf.old) P
+        → IsNoted (T.journal trace.old) (T.journal trace.new) E → result ≡ Status.Overflow line op left right printed
+        → AreOverflow P E line op left right }
 
     // Where a term is too large, a rule of this line, whose positive atoms are all true or must-be-true, has a term or part of a term of
     // this size.

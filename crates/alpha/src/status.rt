@@ -1,9 +1,9 @@
 //! How a run ends, and what is written of it.
 
 ghost use Rattle.std.specs.Prelude.{◌≡◌, ◌++◌, IfOk, string_bytes};
-ghost use Rattle.alpha.specs.Texts.{code_of, finished_line, limit_line, budget_line, last_line_of, too_large_line, around, placed, lined, refusal_message, has_message, message_of};
+ghost use Rattle.alpha.specs.Texts.{code_of, finished_line, limit_line, budget_line, last_line_of, overflow_line, too_large_line, around, placed, lined, refusal_message, has_message, message_of};
 
-use alpha_outside::{List, Name, OutOfMemory};
+use alpha_outside::{ArithOp, List, Name, OutOfMemory};
 use asp_syntax::{Place, What};
 use std::alloc::Global;
 
@@ -69,6 +69,15 @@ pub enum Status {
         number: u64,
         printed: u64,
     },
+    /// An operation of a rule of this line, with these operands, has no place in 64 bits, under a binding that makes all positive atoms of the
+    /// rule true or must-be-true.
+    Overflow {
+        line: u32,
+        op: ArithOp,
+        left: i64,
+        right: i64,
+        printed: u64,
+    },
     /// A rule of this line, whose positive atoms are all true or must-be-true, has a term, or a part of one, of so many symbols, which are
     /// more than 1,048,576.
     TermTooLarge {
@@ -94,6 +103,7 @@ impl Status {
             Status::OutOfMemory => 9,
             Status::LimitReached { .. } => 10,
             Status::BudgetSpent { .. } => 11,
+            Status::Overflow { .. } => 12,
             Status::TermTooLarge { .. } => 13,
         }
     }
@@ -106,6 +116,7 @@ impl Status {
             Status::Finished { .. } => false,
             Status::LimitReached { .. } => false,
             Status::BudgetSpent { .. } => false,
+            Status::Overflow { .. } => false,
             Status::TermTooLarge { .. } => false,
             _ => true,
         }
@@ -167,6 +178,13 @@ fn budget_line(
     }
 }
 
+fn overflow_line(alloc: Global, line: u32, printed: u64) -> Result<List<u8>, OutOfMemory>
+    ensures { IfOk result (λ l. l ≡ overflow_line line printed) }
+{
+    let text = format!(in alloc; "% overflow line {line}, {printed} printed\n")?;
+    Ok(List::from_slice(alloc, text.as_bytes())?)
+}
+
 fn too_large_line(alloc: Global, line: u32, printed: u64) -> Result<List<u8>, OutOfMemory>
     ensures { IfOk result (λ l. l ≡ too_large_line line printed) }
 {
@@ -186,6 +204,7 @@ pub fn last_line(alloc: Global, status: &Status) -> Result<List<u8>, OutOfMemory
             number,
             printed,
         } => budget_line(alloc, *budget, *number, *printed),
+        Status::Overflow { line, printed, .. } => overflow_line(alloc, *line, *printed),
         Status::TermTooLarge { line, printed, .. } => too_large_line(alloc, *line, *printed),
         _ => Ok(List::new(alloc)),
     }
@@ -262,6 +281,7 @@ pub fn message(alloc: Global, status: &Status) -> Result<List<u8>, OutOfMemory>
         Status::Finished { .. } => Ok(List::new(alloc)),
         Status::LimitReached { .. } => Ok(List::new(alloc)),
         Status::BudgetSpent { .. } => Ok(List::new(alloc)),
+        Status::Overflow { .. } => Ok(List::new(alloc)),
         Status::TermTooLarge { .. } => Ok(List::new(alloc)),
         Status::Usage => Ok(List::from_slice(alloc, USAGE)?),
         Status::Refused(refusal) => refusal_message(alloc, refusal),

@@ -130,7 +130,7 @@ fn what_may_be_chosen(rt: HostRuntime) -> Result<(), Fail> {
         ),
         (
             b"{p(1) : q; p(2) : not q, not r} :- s. s. {q}.".as_slice(),
-            "0 {p(2), s}\n{p(1), q, s}\n{q, s}\n{s}\n% complete, 4 printed\n||4",
+            "0 {p(1), q, s}\n{q, s}\n{p(2), s}\n{s}\n% complete, 4 printed\n||4",
         ),
     ];
     for (text, want) in rows {
@@ -253,39 +253,83 @@ fn texts_that_are_refused_by_place(rt: HostRuntime) -> Result<(), Fail> {
 #[test]
 fn forms_that_are_not_built_are_refused_by_line(rt: HostRuntime) -> Result<(), Fail> {
     let rows = [
-        (b"p(X).".as_slice(), "3 |alpha: line 1: not built yet\n|0"),
-        (
-            b"p(f(_)).".as_slice(),
-            "3 |alpha: line 1: not built yet\n|0",
-        ),
-        (
-            b"p(1).\nq :- p(1+1).".as_slice(),
-            "3 |alpha: line 2: not built yet\n|0",
-        ),
-        (b"p(-a).".as_slice(), "3 |alpha: line 1: not built yet\n|0"),
-        (
-            b"a.\nb :- a,\n  p(X).\n-c.".as_slice(),
-            "3 |alpha: line 2: not built yet\n|0",
-        ),
-        (
-            b"-a.\n-p(1).".as_slice(),
-            "3 |alpha: line 2: not built yet\n|0",
-        ),
         (
             b"{a; b}.\n{a} <= 1.".as_slice(),
             "3 |alpha: line 2: not built yet\n|0",
         ),
         (
-            b"{a : p(X)}.".as_slice(),
-            "3 |alpha: line 1: not built yet\n|0",
-        ),
-        (
-            b"a :- 1 < 2.".as_slice(),
-            "3 |alpha: line 1: not built yet\n|0",
-        ),
-        (
             b"a :- #count{X : p(X)} > 0.".as_slice(),
             "3 |alpha: line 1: not built yet\n|0",
+        ),
+    ];
+    for (text, want) in rows {
+        assert_eq!(rt; solved(rt.alloc(), text)?.as_str(), want);
+    }
+    Ok(())
+}
+
+#[test]
+fn rules_with_variables(rt: HostRuntime) -> Result<(), Fail> {
+    let rows = [
+        (
+            b"p(0). q(X) :- p(X), not r(X). r(X) :- p(X), not q(X). s(X,Y) :- q(X), d(Y).".as_slice(),
+            "0 {p(0), q(0)}\n{p(0), r(0)}\n% complete, 2 printed\n||2",
+        ),
+        (
+            b"n(0). n(X+1) :- n(X), X < 3.".as_slice(),
+            "0 {n(0), n(1), n(2), n(3)}\n% complete, 1 printed\n||1",
+        ),
+        (
+            b"p(7). q(X/2) :- p(X). r(X/0) :- p(X). s(-7/2). t(a+1).".as_slice(),
+            "0 {p(7), q(3), s(-3)}\n% complete, 1 printed\n||1",
+        ),
+        (
+            b"e(a,b). e(b,c). r(a). r(Y) :- r(X), e(X,Y). p(X,X) :- r(X), X != a.".as_slice(),
+            "0 {e(a,b), e(b,c), p(b,b), p(c,c), r(a), r(b), r(c)}\n% complete, 1 printed\n||1",
+        ),
+        (
+            b"d(1). d(2). {in(X) : d(X)}. :- in(X), in(Y), X < Y. -in(X) :- d(X), not in(X).".as_slice(),
+            "0 {d(1), d(2), in(1), -in(2)}\n{d(1), d(2), -in(1), in(2)}\n{d(1), d(2), -in(1), -in(2)}\n% complete, 3 printed\n||3",
+        ),
+    ];
+    for (text, want) in rows {
+        assert_eq!(rt; solved(rt.alloc(), text)?.as_str(), want);
+    }
+    Ok(())
+}
+
+#[test]
+fn arithmetic_at_its_ends(rt: HostRuntime) -> Result<(), Fail> {
+    let rows = [
+        (
+            b"p(9223372036854775807). q(X+1) :- p(X).".as_slice(),
+            "12 % overflow line 1, 0 printed\n||0",
+        ),
+        (
+            b"p(-9223372036854775808).".as_slice(),
+            "0 {p(-9223372036854775808)}\n% complete, 1 printed\n||1",
+        ),
+        (
+            b"t(0,a).\nt(N+1,f(X,X)) :- t(N,X), N < 25.".as_slice(),
+            "13 % term too large line 2, 0 printed\n||0",
+        ),
+    ];
+    for (text, want) in rows {
+        assert_eq!(rt; solved(rt.alloc(), text)?.as_str(), want);
+    }
+    Ok(())
+}
+
+#[test]
+fn unsafe_statements_are_refused_by_line(rt: HostRuntime) -> Result<(), Fail> {
+    let rows = [
+        (
+            b"p(X) :- not q(X).".as_slice(),
+            "3 |alpha: line 1: variable X is not bound\n|0",
+        ),
+        (
+            b"a.\np(X).".as_slice(),
+            "3 |alpha: line 2: variable X is not bound\n|0",
         ),
     ];
     for (text, want) in rows {

@@ -1,5 +1,5 @@
--- The tests' rules are ground rules in core form.
-use Rattle.std.proofs.Common.{◌≡◌, ℕ, false, arith, List, [], ◌∷◌, ◌++◌, map, Option, Some, None, refl, sym, ap, subst, ◌∙◌}
+-- The tests' rules are in core form, and make a core that can be searched.
+use Rattle.std.proofs.Common.{◌≡◌, ℕ, arith, List, [], ◌∷◌, ◌++◌, map, Option, Some, None, refl, sym, ap, subst, ◌∙◌}
 use Rattle.std.specs.Prelude.{◌↔◌, slice_get}
 use Rattle.lists.specs.Lists.{◌∈◌, Each, concat}
 use Rattle.lists.proofs.ListLemmas.{Each-map, Each-append}
@@ -11,10 +11,10 @@ use Rattle.core_rules.specs.declared.rules.CoreAtom.{CoreAtom}
 use Rattle.core_rules.specs.declared.rules.CoreAggregate.{CoreAggregate}
 use Rattle.core_rules.specs.declared.rules.Test.{Test}
 use Rattle.core_rules.specs.declared.rules.CoreRule.{CoreRule}
-use Rattle.core_rules.specs.Variables.{has_arithmetic, atom_variables, head_variables, rule_variables}
+use Rattle.core_rules.specs.Variables.{atom_variables, head_variables, rule_variables}
 use Rattle.core_rules.specs.CoreForm.{MayStand, IsFitting, HasNoArithmetic, IsHead, IsRuleForm, IsBelowTotal}
 use Rattle.core_rules.specs.Names.{IsNamedAtom, IsNamedHead, IsNamedRule}
-use Rattle.search_rules.specs.Stage.{head_terms, rule_terms, IsGroundRule, IsGroundCore}
+use Rattle.search_rules.specs.Stage.{IsSearchable}
 
 -- an atom without variables and arithmetic, of a predicate of the program
 abbrev IsGround : CoreAtom → Type 0
@@ -22,42 +22,32 @@ IsGround a = IsFitting [] a × HasNoArithmetic a × IsNamedAtom a × (atom_varia
 
 -- the same for a head
 abbrev IsGroundHead : Option CoreAtom → Type 0
-IsGroundHead h = IsHead [] h × IsNamedHead h × Each (λ t. has_arithmetic t ≡ false) (head_terms h) × (head_variables h ≡ [])
+IsGroundHead h = IsHead [] h × IsNamedHead h × (head_variables h ≡ [])
 
 -- and for a rule
 abbrev Fits : CoreRule → Type 0
-Fits r = IsRuleForm [] r × IsNamedRule r × IsGroundRule r
+Fits r = IsRuleForm [] r × IsNamedRule r
 
 -- ground atoms have no variables
 none_vary : (xs : List CoreAtom) → Each IsGround xs → concat (map atom_variables xs) ≡ []
 none_vary [] each = refl
 none_vary (x ∷ xs) each = ap (λ vs. vs ++ concat (map atom_variables xs)) each.0.3 ∙ none_vary xs each.1
 
--- and no arithmetic
-none_compute : (xs : List CoreAtom) → Each IsGround xs → Each (λ t. has_arithmetic t ≡ false) (concat (map (λ (a : CoreAtom). a.args) xs))
-none_compute [] each = tt
-none_compute (x ∷ xs) each = Each-append (λ t. has_arithmetic t ≡ false) x.args (concat (map (λ (a : CoreAtom). a.args) xs)) each.0.1 (none_compute xs each.1)
-
 -- empty lists, one after another
 all_empty : (a b c : List ℕ) → a ≡ [] → b ≡ [] → c ≡ [] → (a ++ b ++ c ++ [] ++ []) ≡ []
 all_empty a b c ea eb ec = ap (λ x. x ++ b ++ c ++ [] ++ []) ea ∙ ap (λ (y : List ℕ). y ++ c ++ [] ++ []) eb ∙ ap (λ (z : List ℕ). z ++ [] ++ []) ec
 
 module _ (kind : RuleKind) (head : Option CoreAtom) (pos neg : List CoreAtom) (line : ℕ) where
+  -- the rule of these parts
   abbrev of : CoreRule
   of = record { kind = kind; head = head; pos = pos; neg = neg; tests = []; defined = []; variables = 0; line = line }
 
   module _ (good : IsGroundHead head) (over : Each IsGround pos) (under : Each IsGround neg) where
+    -- it has no variables
     none : rule_variables of ≡ []
-    none = all_empty (head_variables head) (concat (map atom_variables pos)) (concat (map atom_variables neg)) good.3 (none_vary pos over) (none_vary neg under)
+    none = all_empty (head_variables head) (concat (map atom_variables pos)) (concat (map atom_variables neg)) good.2 (none_vary pos over) (none_vary neg under)
 
-    plain : Each (λ t. has_arithmetic t ≡ false) (rule_terms of)
-    plain =
-        let p : CoreTerm → Type 0 = λ t. has_arithmetic t ≡ false in
-        let first = Each-append p (head_terms head) (concat (map (λ (a : CoreAtom). a.args) pos)) good.2 (none_compute pos over) in
-        let second = Each-append p (head_terms head ++ concat (map (λ (a : CoreAtom). a.args) pos)) (concat (map (λ (a : CoreAtom). a.args) neg)) first (none_compute neg under) in
-        let third = Each-append p (head_terms head ++ concat (map (λ (a : CoreAtom). a.args) pos) ++ concat (map (λ (a : CoreAtom). a.args) neg)) [] second tt in
-        Each-append p (head_terms head ++ concat (map (λ (a : CoreAtom). a.args) pos) ++ concat (map (λ (a : CoreAtom). a.args) neg) ++ []) [] third tt
-
+    -- so it is in core form
     of_fits : ((head ≡ None) ↔ (kind ≡ Constraint)) → Fits of
     of_fits constraint = (
       record {
@@ -75,10 +65,9 @@ module _ (kind : RuleKind) (head : Option CoreAtom) (pos neg : List CoreAtom) (l
         tests = tt;
         defined = tt;
       },
-      record { no_variables = refl; no_tests = refl; no_arithmetic = plain },
     )
 
-    -- a rule of ground atoms is a ground rule
+    -- a rule of ground atoms is in core form
     pub rule_fits : (tests : List Test) (defined : List CoreTerm) → tests ≡ [] → defined ≡ [] → ((head ≡ None) ↔ (kind ≡ Constraint))
         → Fits (record { kind = kind; head = head; pos = pos; neg = neg; tests = tests; defined = defined; variables = 0; line = line })
     rule_fits tests defined no_tests none_defined constraint =
@@ -95,7 +84,8 @@ no_member h a agg arity is e good =
     nothing : (agg : ℕ) (g : CoreAggregate) → ¬ (slice_get [] agg ≡ Some g)
     nothing agg g e = cc
 
-alone_fits : (rules : List CoreRule) → Each Fits rules → IsGroundCore (record { rules = rules; aggregates = [] })
+-- such rules alone make a core that can be searched
+alone_fits : (rules : List CoreRule) → Each Fits rules → IsSearchable (record { rules = rules; aggregates = [] })
 alone_fits rules each = record {
   form = record {
     rules = Each-map Fits (IsRuleForm []) (λ r h. h.0) rules each;
@@ -103,9 +93,8 @@ alone_fits rules each = record {
   };
   names = Each-map Fits IsNamedRule (λ r h. h.1) rules each;
   no_aggregates = refl;
-  ground_rules = Each-map Fits IsGroundRule (λ r h. h.2) rules each;
 }
 
--- ground rules alone are a ground core
-pub core_fits : (rules : List CoreRule) (aggregates : List CoreAggregate) → aggregates ≡ [] → Each Fits rules → IsGroundCore (record { rules = rules; aggregates = aggregates })
-core_fits rules aggregates none each = subst (λ (aggs : List CoreAggregate). IsGroundCore (record { rules = rules; aggregates = aggs })) (sym none) (alone_fits rules each)
+-- so they do with an empty list of aggregates
+pub core_fits : (rules : List CoreRule) (aggregates : List CoreAggregate) → aggregates ≡ [] → Each Fits rules → IsSearchable (record { rules = rules; aggregates = aggregates })
+core_fits rules aggregates none each = subst (λ (aggs : List CoreAggregate). IsSearchable (record { rules = rules; aggregates = aggs })) (sym none) (alone_fits rules each)

@@ -1,17 +1,17 @@
-//! The inner loop: steps until a nogood is struck, an atom stays must-be-true, a set is found, or a term is too large.
+//! The inner loop: steps until a nogood is struck, an atom stays must-be-true, a set is found, or the grounder stops.
 
 ghost use Rattle.std.specs.Prelude.{◌≤◌, OnOk, IfErr, IfOk};
-ghost use Rattle.enumerator.specs.Standing.{IsReady, IsTraceFault};
-ghost use Rattle.enumerator.specs.Moves.{MoveIs, IsHalt};
-ghost use Rattle.enumerator.specs.Runs.{Runs, Stepped};
+ghost use Rattle.search_journals.specs.Standing.{IsReady, IsTraceFault};
+ghost use Rattle.search_journals.specs.Moves.{MoveIs, IsHalt};
+ghost use Rattle.search_journals.specs.Runs.{Runs, Stepped};
 
-use crate::answers::SearchFault;
+use crate::joining::join;
 use crate::justifying::justify;
-use crate::making::make;
-use crate::moves::{Move, is_halt, next_move};
+use crate::moves::{is_halt, next_move};
 use crate::steps::{choose, close};
 use alpha_outside::Trace;
-use ground_search::Search;
+use search_journals::{Move, SearchFault};
+use search_state::Search;
 use std::alloc::Global;
 
 // Takes the step that comes next. It may bring the search to a halt.
@@ -26,15 +26,18 @@ fn step<T: Trace>(
     requires goes_on { ¬ IsHalt found.now }
     ensures later { T.faults trace.old ≤ T.faults trace.new }
     ensures ok { IfOk result (Stepped search.old search.new (T.journal trace.old) (T.journal trace.new)) }
-    ensures err { IfErr result (IsTraceFault search.old (T.journal trace.old) (T.journal trace.new) (T.faults trace.old) (T.faults trace.new)) }
+    ensures err { IfErr result
+        (IsTraceFault search.old (T.journal trace.old) (T.journal trace.new) (T.faults trace.old) (T.faults trace.new)) }
 {
     match found {
-        Move::Make(rule) => make(search, alloc, trace, *rule),
-        Move::Justify(underivable) => justify(search, alloc, trace, underivable),
+        Move::Join => join(search, trace),
+        Move::Justify(atom) => justify(search, alloc, trace, *atom),
         Move::Choose(body) => choose(search, trace, *body),
         Move::Close(atom) => close(search, trace, *atom),
         Move::Strike(_) => unreachable!(),
-        Move::TooLarge(_, _) => unreachable!(),
+        Move::Overflow { .. } => unreachable!(),
+        Move::TooLarge { .. } => unreachable!(),
+        Move::Spent => unreachable!(),
         Move::Stuck => unreachable!(),
         Move::Full => unreachable!(),
     }
@@ -51,7 +54,8 @@ pub fn advance<T: Trace>(
     ensures runs { OnOk result (Runs search.old search.new (T.journal trace.old) (T.journal trace.new)) }
     ensures halt { IfOk result IsHalt }
     ensures next { IfOk result (MoveIs search.new) }
-    ensures err { IfErr result (IsTraceFault search.old (T.journal trace.old) (T.journal trace.new) (T.faults trace.old) (T.faults trace.new)) }
+    ensures err { IfErr result
+        (IsTraceFault search.old (T.journal trace.old) (T.journal trace.new) (T.faults trace.old) (T.faults trace.new)) }
 {
     'stepping: loop {
         let found = next_move(search, trace)?;

@@ -1,24 +1,24 @@
-//! How an atom that no rule gives becomes false: the nogood that says so is learned, with the atom itself as its cover, and then it is unit.
-//! Where the atom is must-be-true, the nogood is struck instead.
+//! How an atom that no rule gives becomes false: the nogood that says so is learned, with the atom itself as its cover, and then it is
+//! unit. Where the atom is must-be-true, the nogood is struck instead.
 
 ghost use Rattle.std.specs.Prelude.{◌≤◌, IfErr, IfOk};
-ghost use Rattle.ground_search.specs.Moves.{IsNamed};
-ghost use Rattle.enumerator.specs.Standing.{IsReady, IsTraceFault};
-ghost use Rattle.enumerator.specs.Moves.{MoveIs};
-ghost use Rattle.enumerator.specs.Runs.{Stepped};
-ghost use Rattle.enumerator.specs.Justifying.{IsCoverOf, HasJustified};
+ghost use Rattle.search_state.specs.Searching.{IsAllTold};
+ghost use Rattle.search_state.specs.Moves.{IsNamed};
+ghost use Rattle.search_journals.specs.Standing.{IsReady, IsTraceFault};
+ghost use Rattle.search_journals.specs.Moves.{MoveIs};
+ghost use Rattle.search_journals.specs.Runs.{Stepped};
+ghost use Rattle.search_journals.specs.Justifying.{IsCoverOf, HasJustified};
 
-use crate::answers::SearchFault;
-use crate::moves::Move;
-use crate::naming::note_terms;
 use crate::steps::{noted, put};
 use alpha_outside::{AtomId, Event, How, List, NogoodId, OutOfMemory, Pattern, Trace, Value};
-use ground_search::{Search, Underivable};
+use search_journals::{Move, SearchFault};
+use search_state::Search;
 use std::alloc::Global;
 
 // The cover of this atom alone.
 fn cover_of(search: &Search, alloc: Global, atom: AtomId) -> Result<List<Pattern>, OutOfMemory>
-    requires { IsNamed search.now atom }
+    requires told { IsAllTold search.now }
+    requires named { IsNamed search.now atom }
     ensures { IfOk result (IsCoverOf search.now atom) }
 {
     let pattern = search.pattern(atom)?;
@@ -27,24 +27,23 @@ fn cover_of(search: &Search, alloc: Global, atom: AtomId) -> Result<List<Pattern
     Ok(cover)
 }
 
-// Learns the nogood that no rule gives the atom, as long as the other atoms are false.
+// Learns the nogood that no rule gives the atom.
 fn learn_justified<T: Trace>(
     search: &mut Search,
     alloc: Global,
     trace: &mut T,
-    found: &Underivable,
+    atom: AtomId,
 ) -> Result<NogoodId, SearchFault>
     requires ready { IsReady search.old }
-    requires next { MoveIs search.old (Move.Justify found.now) }
+    requires next { MoveIs search.old (Move.Justify atom) }
     ensures later { T.faults trace.old ≤ T.faults trace.new }
-    ensures learned { IfOk result (HasJustified search.old search.new (T.journal trace.old) (T.journal trace.new) found.now) }
+    ensures learned { IfOk result (HasJustified search.old search.new (T.journal trace.old) (T.journal trace.new) atom) }
     ensures err { IfErr result (IsTraceFault search.old (T.journal trace.old) (T.journal trace.new) (T.faults trace.old) (T.faults trace.new)) }
 {
-    note_terms(search, trace)?;
-    let Ok(cover) = cover_of(search, alloc, found.atom) else {
+    let Ok(cover) = cover_of(search, alloc, atom) else {
         return Err(SearchFault::OutOfMemory);
     };
-    let Ok((nogood, lits)) = search.justify(found) else {
+    let Ok((nogood, lits)) = search.justify(atom) else {
         return Err(SearchFault::OutOfMemory);
     };
     noted(
@@ -64,17 +63,17 @@ pub fn justify<T: Trace>(
     search: &mut Search,
     alloc: Global,
     trace: &mut T,
-    found: &Underivable,
+    atom: AtomId,
 ) -> Result<Option<Move>, SearchFault>
     requires ready { IsReady search.old }
-    requires next { MoveIs search.old (Move.Justify found.now) }
+    requires next { MoveIs search.old (Move.Justify atom) }
     ensures later { T.faults trace.old ≤ T.faults trace.new }
     ensures ok { IfOk result (Stepped search.old search.new (T.journal trace.old) (T.journal trace.new)) }
     ensures err { IfErr result (IsTraceFault search.old (T.journal trace.old) (T.journal trace.new) (T.faults trace.old) (T.faults trace.new)) }
 {
-    let nogood = learn_justified(search, alloc, trace, found)?;
-    if search.is_unassigned(found.atom) {
-        put(search, trace, nogood, found.atom, Value::False)
+    let nogood = learn_justified(search, alloc, trace, atom)?;
+    if search.is_unassigned(atom) {
+        put(search, trace, nogood, atom, Value::False)
     } else {
         Ok(Some(Move::Strike(nogood)))
     }

@@ -1,18 +1,18 @@
 //! Answer sets of a core, one after another, each written as it is found.
 //!
-//! The search names the positive atoms of all rules. Then it chooses bodies and propagates values until a nogood is struck, an atom stays
-//! must-be-true, a set is found, or a term is too large; an instance is made when its positive atoms are true or must-be-true, and its other
-//! atoms are named then. An atom that no rule gives is false, by a nogood that says so. After a conflict, a stuck atom or a set it learns the
-//! literals chosen as a nogood, and goes on.
+//! The instances without positive atoms are made first. Then the search propagates values, hands each atom that has become true or
+//! must-be-true to the grounder, which makes the instances that are due with it, and chooses bodies, until a nogood is struck, an atom stays
+//! must-be-true, a set is found, or the grounder stops. After a conflict, a stuck atom or a set it learns the literals chosen as a nogood, and
+//! goes on.
+//!
+//! Why all this is right stands in `search_journals`: a contract here says what a step leaves in the words of its `specs`, and an answer
+//! names its lemma.
 #![tactic(auto)]
 
 mod advance;
-mod answers;
+mod joining;
 mod justifying;
-mod looking;
-mod making;
 mod moves;
-mod naming;
 mod propagating;
 mod searching;
 mod settle;
@@ -20,5 +20,5 @@ mod steps;
 #[cfg(test)]
 mod tests;
 
-pub use answers::{End, SearchFault, Settings};
+pub use search_journals::{End, SearchFault, Settings};
 pub use searching::search;

@@ -2,14 +2,14 @@
 //! before the next, so that the journal told so far stays the one that leads to the search's state; also at a fault.
 
 ghost use Rattle.std.specs.Prelude.{◌≡◌, ◌≤◌, IfOk, IfErr};
-ghost use Rattle.ground_search.specs.Moves.{FixIs};
-ghost use Rattle.enumerator.specs.Standing.{IsReady, IsTraceFault};
-ghost use Rattle.enumerator.specs.Runs.{GoesOn};
+ghost use Rattle.search_state.specs.Moves.{FixIs};
+ghost use Rattle.search_journals.specs.Standing.{IsReady, IsTraceFault};
+ghost use Rattle.search_journals.specs.Runs.{GoesOn};
 
-use crate::answers::SearchFault;
 use alpha_outside::Trace;
-use ground_search::Search;
 use propagation::{Fix, PropFault};
+use search_journals::SearchFault;
+use search_state::Search;
 
 /// Gives the values of unit nogoods and notes each, until nothing is unit or struck, or a nogood is struck.
 pub fn propagate<T: Trace>(search: &mut Search, trace: &mut T) -> Result<Fix, SearchFault>
@@ -17,7 +17,8 @@ pub fn propagate<T: Trace>(search: &mut Search, trace: &mut T) -> Result<Fix, Se
     ensures later { T.faults trace.old ≤ T.faults trace.new }
     ensures goes_on { IfOk result (λ fix. GoesOn search.old search.new (T.journal trace.old) (T.journal trace.new)) }
     ensures fix { IfOk result (FixIs search.new) }
-    ensures err { IfErr result (IsTraceFault search.old (T.journal trace.old) (T.journal trace.new) (T.faults trace.old) (T.faults trace.new)) }
+    ensures err { IfErr result
+        (IsTraceFault search.old (T.journal trace.old) (T.journal trace.new) (T.faults trace.old) (T.faults trace.new)) }
 {
     match search.propagate(trace) {
         Ok(fix) => Ok(fix),

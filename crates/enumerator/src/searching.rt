@@ -1,18 +1,20 @@
-//! The search: a look at all rules first, and then round after round until no set is left.
+//! The search: the instances without positive atoms first, and then round after round until no set is left.
 
 ghost use Rattle.std.specs.Prelude.{◌≡◌, ◌≤◌, ◌<◌, IfOk, IfErr};
-ghost use Rattle.search_rules.specs.Stage.{IsGroundCore};
-ghost use Rattle.enumerator.specs.Search.{SearchAnswer};
-ghost use Rattle.enumerator.specs.Standing.{IsReady};
-ghost use Rattle.enumerator.specs.Settling.{StandsSomewhere, EndsFrom, LeavesFrom, ended};
+ghost use Rattle.search_rules.specs.Stage.{IsSearchable};
+ghost use Rattle.lazy_grounder.specs.Lawful.{IsLawful};
+ghost use Rattle.search_journals.specs.Search.{SearchAnswer};
+ghost use Rattle.search_journals.specs.Standing.{IsReady};
+ghost use Rattle.search_journals.specs.Settling.{StandsSomewhere, EndsFrom, LeavesFrom, ended};
+ghost use Rattle.enumerator.specs.Calls.{IsNew};
 
 use crate::advance::advance;
-use crate::answers::{End, SearchFault, Settings};
-use crate::looking::look;
-use crate::settle::{Finish, settle};
+use crate::joining::start;
+use crate::settle::{end_by_stop, settle};
 use alpha_outside::{Sink, Trace};
 use core_rules::Core;
-use ground_search::Search;
+use search_journals::{End, Finish, SearchFault, Settings};
+use search_state::Search;
 use std::alloc::Global;
 
 // Takes rounds until the search ends; `left` is how many sets may still be written, and `rest` how many nogoods struck.
@@ -30,8 +32,11 @@ fn rounds<O: Sink, T: Trace>(
     ensures out_later { O.faults out.old ≤ O.faults out.new }
     ensures later { T.faults trace.old ≤ T.faults trace.new }
     ensures fewer { left.new ≤ left.old }
-    ensures ok { IfOk result (EndsFrom search.old (T.journal trace.old) (T.journal trace.new) (O.held out.old) (O.held out.new) (left.old, rest.old) (left.new, rest.new)) }
-    ensures err { IfErr result (LeavesFrom search.old (T.journal trace.old) (T.journal trace.new) (O.held out.old) (O.held out.new) (left.old, rest.old)
+    ensures ok { IfOk result
+        (EndsFrom search.old (T.journal trace.old) (T.journal trace.new) (O.held out.old) (O.held out.new) (left.old, rest.old)
+        (left.new, rest.new)) }
+    ensures err { IfErr result
+        (LeavesFrom search.old (T.journal trace.old) (T.journal trace.new) (O.held out.old) (O.held out.new) (left.old, rest.old)
         (O.faults out.old, O.faults out.new) (T.faults trace.old, T.faults trace.new)) }
 {
     'rounds: loop {
@@ -52,12 +57,54 @@ fn end_by(finish: Finish, printed: u64) -> End
         Finish::Finished => End::Finished { printed },
         Finish::LimitReached => End::LimitReached { printed },
         Finish::Conflicts => End::Conflicts { printed },
-        Finish::TermTooLarge(line, size) => End::TermTooLarge {
+        Finish::Instances => End::Instances { printed },
+        Finish::Overflow {
+            line,
+            op,
+            left,
+            right,
+        } => End::Overflow {
+            line,
+            op,
+            left,
+            right,
+            printed,
+        },
+        Finish::TermTooLarge { line, size } => End::TermTooLarge {
             line,
             size,
             printed,
         },
     }
+}
+
+// Searches from the start to the end.
+fn whole<O: Sink, T: Trace>(
+    search: &mut Search,
+    alloc: Global,
+    settings: Settings,
+    out: &mut O,
+    trace: &mut T,
+) -> Result<End, SearchFault>
+    requires new { IsNew settings search.old }
+    requires searchable { IsSearchable search.old.core }
+    requires lawful { IsLawful search.old.core search.old.ground }
+    requires some { 0 < settings.limit }
+    ensures out_later { O.faults out.old ≤ O.faults out.new }
+    ensures trace_later { T.faults trace.old ≤ T.faults trace.new }
+    ensures answer { SearchAnswer search.old.core settings
+        (record { held = O.held out.old; held' = O.held out.new; faults = O.faults out.old; faults' = O.faults out.new })
+        (record { told = T.journal trace.old; told' = T.journal trace.new; faults = T.faults trace.old; faults' = T.faults trace.new })
+        result }
+{
+    if let Some(halt) = start(search, trace)? {
+        return Ok(end_by(end_by_stop(&halt), 0));
+    }
+    let mut left = settings.limit;
+    let mut rest = settings.conflicts;
+    let finish = rounds(search, alloc, out, trace, &mut left, &mut rest)?;
+    let printed = settings.limit - left;
+    Ok(end_by(finish, printed))
 }
 
 /// Writes the line of each core answer set of the core, as one piece each, and notes each event.
@@ -68,7 +115,7 @@ pub fn search<O: Sink, T: Trace>(
     out: &mut O,
     trace: &mut T,
 ) -> Result<End, SearchFault>
-    requires ground { IsGroundCore core }
+    requires searchable { IsSearchable core }
     requires some { 0 < settings.limit }
     ensures out_later { O.faults out.old ≤ O.faults out.new }
     ensures trace_later { T.faults trace.old ≤ T.faults trace.new }
@@ -77,13 +124,8 @@ pub fn search<O: Sink, T: Trace>(
         (record { told = T.journal trace.old; told' = T.journal trace.new; faults = T.faults trace.old; faults' = T.faults trace.new })
         result }
 {
-    let Ok(mut search) = Search::new(alloc, core) else {
+    let Ok(mut search) = Search::new(alloc, core, settings.instances) else {
         return Err(SearchFault::OutOfMemory);
     };
-    look(&mut search, alloc, trace)?;
-    let mut left = settings.limit;
-    let mut rest = settings.conflicts;
-    let finish = rounds(&mut search, alloc, out, trace, &mut left, &mut rest)?;
-    let printed = settings.limit - left;
-    Ok(end_by(finish, printed))
+    whole(&mut search, alloc, settings, out, trace)
 }

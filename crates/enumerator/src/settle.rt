@@ -4,29 +4,42 @@
 ghost use Rattle.std.specs.Prelude.{◌≡◌, ◌≤◌, ◌<◌, ◌+◌, ◌^◌, ◌⊎◌, ℕ, List, Option, Some, None, [], true, false, OnOk, IfErr, IfOk, length, slice_get};
 ghost use Rattle.search_values.specs.Values.{chosen};
 ghost use Rattle.search_theory.specs.States as phase;
-ghost use Rattle.ground_search.specs.Searching.{ids};
-ghost use Rattle.enumerator.specs.Standing.{IsKept, IsReady, IsTraceFault, IsRoundFault, Carries, Fits, Given, Stands, Leaves};
-ghost use Rattle.enumerator.specs.Moves.{MoveIs, IsHalt};
-ghost use Rattle.enumerator.specs.Settling.{MayStrikeNow, MayLearnNow, IsLearned, struck_by, learned_by, gone_back, Carried, Settled, Rounds, Outcome, IsFound};
+ghost use Rattle.search_state.specs.Searching.{ids};
+ghost use Rattle.search_journals.specs.Standing.{IsKept, IsReady, IsTraceFault, IsRoundFault, Carries, Fits, Given, Stands, Leaves};
+ghost use Rattle.search_journals.specs.Moves.{MoveIs, IsHalt};
+ghost use Rattle.search_journals.specs.Settling.{MayStrikeNow, MayLearnNow, IsLearned, struck_by, learned_by, gone_back, Carried, Settled, Rounds, Outcome, IsFound};
+ghost use Rattle.enumerator.specs.Calls.{IsStop, IsEndBy};
 
-use crate::answers::SearchFault;
-use crate::moves::Move;
 use crate::steps::noted;
 use alpha_outside::{Event, How, List, NogoodId, Sink, SinkStop, Trace};
-use ground_search::{Search, Stage};
+use search_journals::{Finish, Move, SearchFault};
+use search_state::{Search, Stage};
 use std::alloc::Global;
 
-/// How a search ends by itself.
-#[derive(Clone, Copy, Debug, PartialEq, Eq)]
-pub enum Finish {
-    /// No set is left.
-    Finished,
-    /// As many sets were shown as the limit allows.
-    LimitReached,
-    /// As many nogoods were struck as the budget allows, and one more is struck.
-    Conflicts,
-    /// A rule of this line that is due has a term of so many symbols, which are too many.
-    TermTooLarge(u32, u64),
+/// How the search ends where the grounder stopped it.
+pub fn end_by_stop(found: &Move) -> Finish
+    requires { IsStop found.now }
+    ensures { IsEndBy found.now result }
+{
+    match found {
+        Move::Overflow {
+            line,
+            op,
+            left,
+            right,
+        } => Finish::Overflow {
+            line: *line,
+            op: *op,
+            left: *left,
+            right: *right,
+        },
+        Move::TooLarge { line, size } => Finish::TermTooLarge {
+            line: *line,
+            size: *size,
+        },
+        Move::Spent => Finish::Instances,
+        _ => unreachable!(),
+    }
 }
 
 // Notes the nogood as struck.
@@ -36,7 +49,8 @@ fn strike<T: Trace>(search: &mut Search, trace: &mut T, nogood: NogoodId) -> Res
     ensures later { T.faults trace.old ≤ T.faults trace.new }
     ensures struck { OnOk result (search.new ≡ struck_by search.old nogood) }
     ensures carries { OnOk result (Carried search.old search.new (T.journal trace.old) (T.journal trace.new) 1) }
-    ensures err { IfErr result (IsTraceFault search.old (T.journal trace.old) (T.journal trace.new) (T.faults trace.old) (T.faults trace.new)) }
+    ensures err { IfErr result
+        (IsTraceFault search.old (T.journal trace.old) (T.journal trace.new) (T.faults trace.old) (T.faults trace.new)) }
 {
     search.strike(nogood);
     noted(trace, &Event::Struck { nogood })
@@ -55,7 +69,8 @@ fn learn<T: Trace>(
     ensures learned { OnOk result (search.new ≡ learned_by search.old) }
     ensures ids_fit { OnOk result (ids search.old < 2 ^ 32) }
     ensures carries { OnOk result (Carried search.old search.new (T.journal trace.old) (T.journal trace.new) 0) }
-    ensures err { IfErr result (IsTraceFault search.old (T.journal trace.old) (T.journal trace.new) (T.faults trace.old) (T.faults trace.new)) }
+    ensures err { IfErr result
+        (IsTraceFault search.old (T.journal trace.old) (T.journal trace.new) (T.faults trace.old) (T.faults trace.new)) }
 {
     let Ok(chosen) = search.chosen() else {
         return Err(SearchFault::OutOfMemory);
@@ -85,7 +100,8 @@ fn back<T: Trace>(search: &mut Search, trace: &mut T) -> Result<Option<Finish>, 
     ensures goes_on { IfOk result (λ end. end ≡ None) }
     ensures back { OnOk result (search.new ≡ gone_back search.old) }
     ensures carries { OnOk result (Carried search.old search.new (T.journal trace.old) (T.journal trace.new) 0) }
-    ensures err { IfErr result (IsTraceFault search.old (T.journal trace.old) (T.journal trace.new) (T.faults trace.old) (T.faults trace.new)) }
+    ensures err { IfErr result
+        (IsTraceFault search.old (T.journal trace.old) (T.journal trace.new) (T.faults trace.old) (T.faults trace.new)) }
 {
     let level = search.jump();
     search.back(level);
@@ -114,8 +130,12 @@ fn show<O: Sink, T: Trace>(
     ensures out_later { O.faults out.old ≤ O.faults out.new }
     ensures later { T.faults trace.old ≤ T.faults trace.new }
     ensures shown { OnOk result (search.new ≡ record search.old { phase = phase.Found }) }
-    ensures carries { OnOk result ((left rest : ℕ) → Carries search.old search.new (T.journal trace.old) (T.journal trace.new) (O.held out.old) (O.held out.new) (left + 1, rest) (left, rest)) }
-    ensures err { IfErr result (λ f. (g : Given) → Fits g search.old → (left rest : ℕ) → 0 < left → Stands g search.old (T.journal trace.old) (O.held out.old) left rest
+    ensures carries { OnOk result
+        ((left rest : ℕ) → Carries search.old search.new (T.journal trace.old) (T.journal trace.new) (O.held out.old) (O.held out.new)
+        (left + 1, rest) (left, rest)) }
+    ensures err { IfErr result
+        (λ f. (g : Given) → Fits g search.old → (left rest : ℕ) → 0 < left → Stands g search.old (T.journal trace.old)
+        (O.held out.old) left rest
         → Leaves g (T.journal trace.new) (O.held out.new) (O.faults out.old, O.faults out.new) (T.faults trace.old, T.faults trace.new) f) }
 {
     let Ok(ids) = search.true_atoms() else {
@@ -144,7 +164,8 @@ fn go_back<T: Trace>(
     requires learned { IsLearned search.old }
     ensures later { T.faults trace.old ≤ T.faults trace.new }
     ensures ok { IfOk result (Settled search.old search.new (T.journal trace.old) (T.journal trace.new) rest.old rest.new) }
-    ensures err { IfErr result (IsRoundFault search.old (T.journal trace.old) (T.journal trace.new) rest.old (T.faults trace.old) (T.faults trace.new)) }
+    ensures err { IfErr result
+        (IsRoundFault search.old (T.journal trace.old) (T.journal trace.new) rest.old (T.faults trace.old) (T.faults trace.new)) }
 {
     let Stage::MustStrike(nogood) = search.stage() else {
         return back(search, trace);
@@ -172,7 +193,8 @@ fn settle_struck<T: Trace>(
     requires next { MoveIs search.old (Move.Strike nogood) }
     ensures later { T.faults trace.old ≤ T.faults trace.new }
     ensures ok { IfOk result (Rounds search.old search.new (T.journal trace.old) (T.journal trace.new) rest.old rest.new) }
-    ensures err { IfErr result (IsRoundFault search.old (T.journal trace.old) (T.journal trace.new) rest.old (T.faults trace.old) (T.faults trace.new)) }
+    ensures err { IfErr result
+        (IsRoundFault search.old (T.journal trace.old) (T.journal trace.new) rest.old (T.faults trace.old) (T.faults trace.new)) }
 {
     if *rest == 0 {
         return Ok(Some(Finish::Conflicts));
@@ -197,7 +219,8 @@ fn settle_stuck<T: Trace>(
     requires next { MoveIs search.old Move.Stuck }
     ensures later { T.faults trace.old ≤ T.faults trace.new }
     ensures ok { IfOk result (Rounds search.old search.new (T.journal trace.old) (T.journal trace.new) rest.old rest.new) }
-    ensures err { IfErr result (IsRoundFault search.old (T.journal trace.old) (T.journal trace.new) rest.old (T.faults trace.old) (T.faults trace.new)) }
+    ensures err { IfErr result
+        (IsRoundFault search.old (T.journal trace.old) (T.journal trace.new) rest.old (T.faults trace.old) (T.faults trace.new)) }
 {
     learn(search, alloc, trace, How::Decisions)?;
     go_back(search, trace, rest)
@@ -212,8 +235,12 @@ fn settle_shown<T: Trace>(
 ) -> Result<Option<Finish>, SearchFault>
     requires found { IsFound search.old }
     ensures later { T.faults trace.old ≤ T.faults trace.new }
-    ensures ok { IfOk result (λ end. (held : Option (List ℕ)) → (rest : ℕ) → Outcome search.old search.new (T.journal trace.old) (T.journal trace.new) held held (left, rest) (left, rest) end) }
-    ensures err { IfErr result (λ f. (0 < left) × ((rest : ℕ) → IsRoundFault search.old (T.journal trace.old) (T.journal trace.new) rest (T.faults trace.old) (T.faults trace.new) f)) }
+    ensures ok { IfOk result
+        (λ end. (held : Option (List ℕ)) → (rest : ℕ) → Outcome search.old search.new (T.journal trace.old) (T.journal trace.new) held held
+        (left, rest) (left, rest) end) }
+    ensures err { IfErr result
+        (λ f. (0 < left) × ((rest : ℕ) → IsRoundFault search.old (T.journal trace.old) (T.journal trace.new) rest (T.faults trace.old)
+        (T.faults trace.new) f)) }
 {
     if left == 0 {
         return Ok(Some(Finish::LimitReached));
@@ -245,8 +272,11 @@ pub fn settle<O: Sink, T: Trace>(
     ensures out_later { O.faults out.old ≤ O.faults out.new }
     ensures later { T.faults trace.old ≤ T.faults trace.new }
     ensures fewer { left.new ≤ left.old }
-    ensures ok { IfOk result (Outcome search.old search.new (T.journal trace.old) (T.journal trace.new) (O.held out.old) (O.held out.new) (left.old, rest.old) (left.new, rest.new)) }
-    ensures err { IfErr result (λ f. (g : Given) → Fits g search.old → Stands g search.old (T.journal trace.old) (O.held out.old) left.old rest.old
+    ensures ok { IfOk result
+        (Outcome search.old search.new (T.journal trace.old) (T.journal trace.new) (O.held out.old) (O.held out.new) (left.old, rest.old)
+        (left.new, rest.new)) }
+    ensures err { IfErr result
+        (λ f. (g : Given) → Fits g search.old → Stands g search.old (T.journal trace.old) (O.held out.old) left.old rest.old
         → Leaves g (T.journal trace.new) (O.held out.new) (O.faults out.old, O.faults out.new) (T.faults trace.old, T.faults trace.new) f) }
 {
     match found {
@@ -257,7 +287,6 @@ pub fn settle<O: Sink, T: Trace>(
             *left -= 1;
             settle_shown(search, alloc, trace, *left)
         }
-        Move::TooLarge(line, size) => Ok(Some(Finish::TermTooLarge(line, size))),
-        _ => unreachable!(),
+        _ => Ok(Some(end_by_stop(&found))),
     }
 }

@@ -2,14 +2,13 @@
 
 ghost use Rattle.std.specs.Prelude.{◌≡◌, ◌≤◌, OnOk, IfOk, IfErr, option_map};
 ghost use Rattle.alpha_outside.specs.Outside.{with_event};
-ghost use Rattle.enumerator.specs.Standing.{IsTraceCause, IsReady, IsTraceFault};
-ghost use Rattle.enumerator.specs.Moves.{MoveIs, GivesNow};
-ghost use Rattle.enumerator.specs.Runs.{Stepped};
+ghost use Rattle.search_journals.specs.Standing.{IsTraceCause, IsReady, IsTraceFault};
+ghost use Rattle.search_journals.specs.Moves.{MoveIs, GivesNow};
+ghost use Rattle.search_journals.specs.Runs.{Stepped};
 
-use crate::answers::SearchFault;
-use crate::moves::Move;
 use alpha_outside::{AtomId, Event, NogoodId, Trace, TraceStop, Value};
-use ground_search::Search;
+use search_journals::{Move, SearchFault};
+use search_state::Search;
 
 /// Notes an event.
 pub fn noted<T: Trace>(trace: &mut T, event: &Event) -> Result<(), SearchFault>
@@ -37,7 +36,8 @@ pub fn put<T: Trace>(
     requires next { GivesNow search.old by atom value }
     ensures later { T.faults trace.old ≤ T.faults trace.new }
     ensures ok { IfOk result (Stepped search.old search.new (T.journal trace.old) (T.journal trace.new)) }
-    ensures err { IfErr result (IsTraceFault search.old (T.journal trace.old) (T.journal trace.new) (T.faults trace.old) (T.faults trace.new)) }
+    ensures err { IfErr result
+        (IsTraceFault search.old (T.journal trace.old) (T.journal trace.new) (T.faults trace.old) (T.faults trace.new)) }
 {
     search.put(atom, value, by);
     noted(trace, &Event::Put { atom, value, by })?;
@@ -54,7 +54,8 @@ pub fn choose<T: Trace>(
     requires next { MoveIs search.old (Move.Choose body) }
     ensures later { T.faults trace.old ≤ T.faults trace.new }
     ensures ok { IfOk result (Stepped search.old search.new (T.journal trace.old) (T.journal trace.new)) }
-    ensures err { IfErr result (IsTraceFault search.old (T.journal trace.old) (T.journal trace.new) (T.faults trace.old) (T.faults trace.new)) }
+    ensures err { IfErr result
+        (IsTraceFault search.old (T.journal trace.old) (T.journal trace.new) (T.faults trace.old) (T.faults trace.new)) }
 {
     search.choose(body);
     noted(trace, &Event::Chosen { body, up: true })?;
@@ -71,7 +72,8 @@ pub fn close<T: Trace>(
     requires next { MoveIs search.old (Move.Close atom) }
     ensures later { T.faults trace.old ≤ T.faults trace.new }
     ensures ok { IfOk result (Stepped search.old search.new (T.journal trace.old) (T.journal trace.new)) }
-    ensures err { IfErr result (IsTraceFault search.old (T.journal trace.old) (T.journal trace.new) (T.faults trace.old) (T.faults trace.new)) }
+    ensures err { IfErr result
+        (IsTraceFault search.old (T.journal trace.old) (T.journal trace.new) (T.faults trace.old) (T.faults trace.new)) }
 {
     search.close(atom);
     noted(trace, &Event::Closed { atom })?;

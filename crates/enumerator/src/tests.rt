@@ -5,7 +5,7 @@ ghost use Rattle.asp_syntax.specs.WellFormed.{IsId};
 ghost use Rattle.core_rules.specs.CoreForm.{IsFitting, HasNoArithmetic, IsHead, IsRuleForm};
 ghost use Rattle.core_rules.specs.Names.{IsNamedAtom, IsNamedHead, IsNamedRule, IsNamedTerm};
 ghost use Rattle.core_rules.specs.Variables.{has_arithmetic, variables, atom_variables, head_variables};
-ghost use Rattle.search_rules.specs.Stage.{IsGroundRule, IsGroundCore, head_terms};
+ghost use Rattle.search_rules.specs.Stage.{IsSearchable};
 
 use crate::{End, SearchFault, Settings, search};
 use alpha_outside::{Event, How, List, MemSink, MemTrace, Name, OutOfMemory, Pred, RuleKind};
@@ -44,6 +44,7 @@ struct Case<'a> {
     lines: &'a [Line<'a>],
     limit: u64,
     conflicts: u64,
+    instances: u64,
     failing: &'a [u64],
     cut: usize,
     untraced: &'a [u64],
@@ -148,7 +149,7 @@ fn atoms(alloc: Global, letters: &[Letter]) -> Result<List<CoreAtom>, OutOfMemor
 
 // The kind of a rule with this head, and the head.
 fn head(alloc: Global, top: Top) -> Result<(RuleKind, Option<CoreAtom>), OutOfMemory>
-    ensures fits { IfOk result (λ h. IsHead [] h.1 × IsNamedHead h.1 × Each (λ t. has_arithmetic t ≡ false) (head_terms h.1) × (head_variables h.1 ≡ [])) }
+    ensures fits { IfOk result (λ h. IsHead [] h.1 × IsNamedHead h.1 × (head_variables h.1 ≡ [])) }
     ensures kind { IfOk result (λ h. (h.1 ≡ None) ↔ (h.0 ≡ Constraint)) }
 {
     match top {
@@ -159,7 +160,7 @@ fn head(alloc: Global, top: Top) -> Result<(RuleKind, Option<CoreAtom>), OutOfMe
 }
 
 fn rule(alloc: Global, line: Line<'_>) -> Result<CoreRule, OutOfMemory>
-    ensures { IfOk result (λ r. IsRuleForm [] r × IsNamedRule r × IsGroundRule r) }
+    ensures { IfOk result (λ r. IsRuleForm [] r × IsNamedRule r) }
 {
     let (top, pos, neg) = line;
     let (kind, head) = head(alloc, top)?;
@@ -178,7 +179,7 @@ fn rule(alloc: Global, line: Line<'_>) -> Result<CoreRule, OutOfMemory>
 }
 
 fn core(alloc: Global, lines: &[Line<'_>]) -> Result<Core, OutOfMemory>
-    ensures { IfOk result IsGroundCore }
+    ensures { IfOk result IsSearchable }
 {
     let mut rules = List::new(alloc);
     for line in lines {
@@ -196,6 +197,8 @@ fn word(answer: &Result<End, SearchFault>) -> &'static str {
         Ok(End::Finished { .. }) => "finished",
         Ok(End::LimitReached { .. }) => "limit",
         Ok(End::Conflicts { .. }) => "conflicts",
+        Ok(End::Instances { .. }) => "instances",
+        Ok(End::Overflow { .. }) => "overflow",
         Ok(End::TermTooLarge { .. }) => "term too large",
         Err(SearchFault::WriteFault) => "write fault",
         Err(SearchFault::TraceFault) => "trace fault",
@@ -209,6 +212,8 @@ fn printed(answer: &Result<End, SearchFault>) -> u64 {
         Ok(End::Finished { printed }) => *printed,
         Ok(End::LimitReached { printed }) => *printed,
         Ok(End::Conflicts { printed }) => *printed,
+        Ok(End::Instances { printed }) => *printed,
+        Ok(End::Overflow { printed, .. }) => *printed,
         Ok(End::TermTooLarge { printed, .. }) => *printed,
         Err(_) => 0,
     }
@@ -240,7 +245,7 @@ fn searched(alloc: Global, case: &Case<'_>) -> Result<String, Fail>
     let settings = Settings {
         limit: case.limit,
         conflicts: case.conflicts,
-        instances: 1_000,
+        instances: case.instances,
     };
     let core = core(alloc, case.lines)?;
     let mut out = MemSink::new(alloc, List::from_slice(alloc, case.failing)?, case.cut);
@@ -275,13 +280,6 @@ const CHOSEN_AND_WANTED: [Line<'static>; 2] = [(Chosen(R), &[], &[]), (Nothing, 
 
 // `b :- not a.`
 const NOTHING_GIVES_A: [Line<'static>; 1] = [(Fact(B), &[], &[A])];
-
-// `b :- not a. a :- p(f(1)). p(f(1)) :- p(f(1)), b.`
-const NOTHING_BEGINS: [Line<'static>; 3] = [
-    (Fact(B), &[], &[A]),
-    (Fact(A), &[P], &[]),
-    (Fact(P), &[P, B], &[]),
-];
 
 // `a. :- a.`
 const BROKEN: [Line<'static>; 2] = [(Fact(A), &[], &[]), (Nothing, &[A], &[])];
@@ -320,6 +318,7 @@ fn what_is_in_the_sets(rt: HostRuntime) -> Result<(), Fail> {
             lines,
             limit: 5,
             conflicts: 5,
+            instances: 1_000,
             failing: &[],
             cut: 0,
             untraced: &[],
@@ -374,6 +373,7 @@ fn each_of_two_blocks_the_other(rt: HostRuntime) -> Result<(), Fail> {
             lines: &EACH_BLOCKS_THE_OTHER,
             limit,
             conflicts: 5,
+            instances: 1_000,
             failing,
             cut: 2,
             untraced,
@@ -395,8 +395,13 @@ fn no_conflict_may_come_where_none_is_allowed(rt: HostRuntime) -> Result<(), Fai
         ),
         (
             EACH_BLOCKS_THE_OTHER.as_slice(),
-            "finished 2|{a}\n{b}\n|2",
-            "finished 2|{b}\n{a}\n|2",
+            "conflicts 2|{a}\n{b}\n|2",
+            "conflicts 2|{b}\n{a}\n|2",
+        ),
+        (
+            HAS_TERMS.as_slice(),
+            "finished 1|{p(f(1)), q(\"a b\",-2)}\n|1",
+            "",
         ),
     ];
     for (lines, want, or) in rows {
@@ -404,6 +409,7 @@ fn no_conflict_may_come_where_none_is_allowed(rt: HostRuntime) -> Result<(), Fai
             lines,
             limit: 5,
             conflicts: 0,
+            instances: 1_000,
             failing: &[],
             cut: 0,
             untraced: &[],
@@ -414,30 +420,40 @@ fn no_conflict_may_come_where_none_is_allowed(rt: HostRuntime) -> Result<(), Fai
     Ok(())
 }
 
-// How many nogoods are justified by one atom in a search that may meet so many conflicts, and how that ends.
-fn justified_in(
-    alloc: Global,
-    lines: &[Line<'_>],
-    conflicts: u64,
-) -> Result<(&'static str, usize), Fail> {
-    let settings = Settings {
-        limit: 5,
-        conflicts,
-        instances: 1_000,
-    };
-    let core = core(alloc, lines)?;
-    let mut out = MemSink::new(alloc, List::new(alloc), 0);
-    let mut trace = MemTrace::new(alloc, List::new(alloc));
-    let answer = search(alloc, core, settings, &mut out, &mut trace);
-    Ok((word(&answer), justified(trace.events())))
+#[test]
+fn no_more_instances_are_made_than_the_budget_allows(rt: HostRuntime) -> Result<(), Fail> {
+    let rows = [
+        (0, "instances 0||0"),
+        (1, "instances 0||0"),
+        (2, "finished 1|{p(f(1)), q(\"a b\",-2)}\n|1"),
+    ];
+    for (instances, want) in rows {
+        let case = Case {
+            lines: &HAS_TERMS,
+            limit: 5,
+            conflicts: 5,
+            instances,
+            failing: &[],
+            cut: 0,
+            untraced: &[],
+        };
+        assert_eq!(rt; searched(rt.alloc(), &case)?.as_str(), want);
+    }
+    Ok(())
 }
 
 #[test]
 fn what_no_rule_gives_needs_no_choice(rt: HostRuntime) -> Result<(), Fail> {
-    let alloc = rt.alloc();
-    assert!(rt; justified_in(alloc, &NOTHING_GIVES_A, 0)? == ("finished", 1));
-    assert!(rt; justified_in(alloc, &NOTHING_BEGINS, 0)? == ("finished", 2));
-    assert!(rt; justified_in(alloc, &WANTS_SUPPORT, 1)? == ("finished", 1));
-    assert!(rt; justified_in(alloc, &WANTS_SUPPORT, 0)? == ("conflicts", 1));
+    let core = core(rt.alloc(), &NOTHING_GIVES_A)?;
+    let settings = Settings {
+        limit: 5,
+        conflicts: 0,
+        instances: 1,
+    };
+    let mut out = MemSink::new(rt.alloc(), List::new(rt.alloc()), 0);
+    let mut trace = MemTrace::new(rt.alloc(), List::new(rt.alloc()));
+    let answer = search(rt.alloc(), core, settings, &mut out, &mut trace);
+    assert_eq!(rt; word(&answer), "finished");
+    assert_eq!(rt; justified(trace.events()), 1);
     Ok(())
 }

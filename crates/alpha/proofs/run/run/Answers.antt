@@ -1,5 +1,5 @@
 use Rattle.alpha.proofs.Clauses.{reported, output, output_appends, events_appended, unnoted, caused, refused_words}
-use Rattle.alpha.proofs.Accepted.{too_long_comes, refusal_comes, accepted_ends, shown_are_answer_sets, shown_once, finished_is_complete, journal_is_legal, budget_is_spent, term_too_large, lines_are_shown_events}
+use Rattle.alpha.proofs.Accepted.{too_long_comes, refusal_comes, accepted_ends, shown_are_answer_sets, shown_once, finished_is_complete, journal_is_legal, budget_is_spent, overflow_in_rule, term_too_large, lines_are_shown_events}
 use Rattle.alpha.proofs.Appended.{name_kept}
 use Rattle.alpha.proofs.run.run.Goals as goal
 
@@ -24,8 +24,12 @@ returns-clause-lines_are_shown_events g c = λ P b E a is noted.
     lines_are_shown_events _ _ _ _ _ P a c.report.result (reported _ _ _ _ _ _ _ c.work-status.ensures.outcome c.report.ensures.same) E noted b is
 
 pub returns-clause-budget_is_spent : goal.returns-clause-budget_is_spent
-returns-clause-budget_is_spent g c = λ P E number printed a noted e.
-    budget_is_spent _ _ _ _ _ P a c.report.result (reported _ _ _ _ _ _ _ c.work-status.ensures.outcome c.report.ensures.same) E noted number printed e
+returns-clause-budget_is_spent g c = λ P E kind number printed a noted e.
+    budget_is_spent _ _ _ _ _ P a c.report.result (reported _ _ _ _ _ _ _ c.work-status.ensures.outcome c.report.ensures.same) E noted kind number printed e
+
+pub returns-clause-overflow_in_rule : goal.returns-clause-overflow_in_rule
+returns-clause-overflow_in_rule g c = λ P E line op left right printed a noted e.
+    overflow_in_rule _ _ _ _ _ P a c.report.result (reported _ _ _ _ _ _ _ c.work-status.ensures.outcome c.report.ensures.same) E noted line op left right printed e
 
 pub returns-clause-term_too_large : goal.returns-clause-term_too_large
 returns-clause-term_too_large g c = λ P E line size printed a noted e.

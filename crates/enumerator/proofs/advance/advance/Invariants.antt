@@ -1,6 +1,6 @@
 use Rattle.std.proofs.Common.{◌≤◌}
-use Rattle.enumerator.specs.Runs.{Runs}
-use Rattle.enumerator.specs.Measures.{work_left}
+use Rattle.search_journals.specs.Runs.{Runs}
+use Rattle.search_journals.specs.Measures.{work_left}
 use Rattle.enumerator.proofs.advance.advance.Given as goal
 
 abbrev pub invariant-stepping : goal.invariant-stepping

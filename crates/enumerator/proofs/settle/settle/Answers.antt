@@ -1,8 +1,9 @@
-use Rattle.std.proofs.Common.{subst}
+use Rattle.std.proofs.Common.{subst, arith}
 use Rattle.std.proofs.lemmas.Result.{err_from_is_err_and}
-use Rattle.enumerator.specs.Moves.{MoveIs}
-use Rattle.enumerator.proofs.Stepping.{err_on}
-use Rattle.enumerator.proofs.Ending.{leaves_fault, ends_too_large, shown_outcome, shown_fault, is_found}
+use Rattle.search_journals.specs.Moves.{MoveIs}
+use Rattle.search_journals.proofs.Stepping.{err_on}
+use Rattle.search_journals.proofs.Ending.{leaves_fault, shown_outcome, shown_fault, is_found}
+use Rattle.enumerator.proofs.Ends.{other_stops, ends_stop}
 use Rattle.enumerator.proofs.settle.settle.Goals as goal
 
 pub returns-in_err-show-in-Full-clause-err : goal.returns-in_err-show-in-Full-clause-err
@@ -12,25 +13,42 @@ returns-in_err-show-in-Full-clause-err g c =
 
 pub settle_shown-requires : goal.settle_shown-requires
 settle_shown-requires g c = record {
-  found = is_found c.args.search.now c.show.new.search _ _ _ _ c.in_ok-show-in-Full.ensures.shown c.in_ok-show-in-Full.ensures.carries c.requires.ready (subst (λ m. MoveIs c.args.search.now m) c.in-Full.is c.requires.next);
+  found = is_found c.args.search.now c.show.new.search _ _ _ _ c.in_ok-show-in-Full.ensures.shown c.in_ok-show-in-Full.ensures.carries
+      c.requires.ready (subst (λ m. MoveIs c.args.search.now m) c.in-Full.is c.requires.next);
 }
 
 pub returns-in-Strike-clause-err : goal.returns-in-Strike-clause-err
-returns-in-Strike-clause-err g c = err_on c.settle_struck.result (λ f fault g' fits s. leaves_fault c.args.search.now _ _ _ _ _ _ f fault g' fits _ _ c.requires.room s) c.settle_struck.ensures.err
+returns-in-Strike-clause-err g c =
+    err_on c.settle_struck.result
+    (λ f fault g' fits s. leaves_fault c.args.search.now _ _ _ _ _ _ f fault g' fits _ _ c.requires.room s) c.settle_struck.ensures.err
 
 pub returns-in-Stuck-clause-err : goal.returns-in-Stuck-clause-err
-returns-in-Stuck-clause-err g c = err_on c.settle_stuck.result (λ f fault g' fits s. leaves_fault c.args.search.now _ _ _ _ _ _ f fault g' fits _ _ c.requires.room s) c.settle_stuck.ensures.err
+returns-in-Stuck-clause-err g c =
+    err_on c.settle_stuck.result
+    (λ f fault g' fits s. leaves_fault c.args.search.now _ _ _ _ _ _ f fault g' fits _ _ c.requires.room s) c.settle_stuck.ensures.err
 
 pub returns-in_ok-show-in-Full-clause-ok : goal.returns-in_ok-show-in-Full-clause-ok
-returns-in_ok-show-in-Full-clause-ok g c = shown_outcome c.args.search.now c.show.new.search _ _ _ _ c.in_ok-show-in-Full.ensures.shown c.in_ok-show-in-Full.ensures.carries
+returns-in_ok-show-in-Full-clause-ok g c =
+    shown_outcome c.args.search.now c.show.new.search _ _ _ _ c.in_ok-show-in-Full.ensures.shown c.in_ok-show-in-Full.ensures.carries
     c.settle_shown.result c.settle_shown.new.search _ c.args.left.now c.args.rest.now c.requires.room c.settle_shown.ensures.ok
 
 pub returns-in_ok-show-in-Full-clause-err : goal.returns-in_ok-show-in-Full-clause-err
 returns-in_ok-show-in-Full-clause-err g c = err_on c.settle_shown.result
-    (λ f fault g' fits s. shown_fault c.args.search.now c.show.new.search _ _ _ _ c.in_ok-show-in-Full.ensures.shown c.in_ok-show-in-Full.ensures.carries
+    (λ f fault g' fits s. shown_fault c.args.search.now c.show.new.search _ _ _ _ c.in_ok-show-in-Full.ensures.shown
+    c.in_ok-show-in-Full.ensures.carries
     _ c.args.left.now c.args.rest.now _ _ _ _ f c.requires.room c.in_ok-show-in-Full.ensures.later fault g' fits s)
     c.settle_shown.ensures.err
 
-pub returns-in-TooLarge-clause-ok : goal.returns-in-TooLarge-clause-ok
-returns-in-TooLarge-clause-ok g c = λ g' fits s.
-    ends_too_large g' c.args.search.now _ _ c.args.left.now c.args.rest.now fits s c.requires.room c.in-TooLarge.line c.in-TooLarge.size (subst (λ m. MoveIs c.args.search.now m) c.in-TooLarge.is c.requires.next)
+pub end_by_stop-requires : goal.end_by_stop-requires
+end_by_stop-requires g c = other_stops c.args.found c.requires.halt c.in_default.not-Strike c.in_default.not-Stuck c.in_default.not-Full
+
+pub returns-in_default : goal.returns-in_default
+returns-in_default g c = record {
+  out_later = omega arith;
+  later = omega arith;
+  fewer = omega arith;
+  ok = λ g' fits s.
+      ends_stop g' c.args.search.now _ _ _ _ fits s c.requires.room c.requires.ready.kept.told c.args.found c.end_by_stop.result
+      c.end_by_stop.ensures c.requires.next;
+  err = tt;
+}

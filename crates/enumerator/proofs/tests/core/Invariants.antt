@@ -2,8 +2,7 @@ use Rattle.std.proofs.Common.{[]}
 use Rattle.lists.specs.Lists.{Each}
 use Rattle.core_rules.specs.CoreForm.{IsRuleForm}
 use Rattle.core_rules.specs.Names.{IsNamedRule}
-use Rattle.search_rules.specs.Stage.{IsGroundRule}
 use Rattle.enumerator.proofs.tests.core.Given as goal
 
 abbrev pub invariant-loop-line : goal.invariant-loop-line
-invariant-loop-line l = Each (λ r. IsRuleForm [] r × IsNamedRule r × IsGroundRule r) l.rules
+invariant-loop-line l = Each (λ r. IsRuleForm [] r × IsNamedRule r) l.rules

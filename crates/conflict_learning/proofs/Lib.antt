@@ -1,0 +1,14 @@
+pub mod Stacks
+pub mod Marks
+pub mod Underway
+pub mod Reasoning
+pub mod Marking
+pub mod Highest
+pub mod Calls
+pub mod Ends
+pub mod Turns
+pub mod Shown
+pub mod Opening
+pub mod Firsts
+pub mod LawProofs
+pub mod Tested

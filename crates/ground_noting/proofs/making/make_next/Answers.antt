@@ -1,0 +1,9 @@
+use Rattle.std.proofs.Common.{refl}
+use Rattle.ground_noting.proofs.NotingLemmas.{noted_none}
+use Rattle.ground_noting.proofs.making.make_next.Goals as goal
+
+pub returns-in-Err-clause-noted : goal.returns-in-Err-clause-noted
+returns-in-Err-clause-noted g c = noted_none c.args.ground.now c.args.told.now _ _ refl
+
+pub returns-in_err-tell-clause-noted : goal.returns-in_err-tell-clause-noted
+returns-in_err-tell-clause-noted g c = noted_none c.args.ground.now c.args.told.now _ _ c.in_err-tell.ensures.err

@@ -1,6 +1,0 @@
-use Rattle.std.proofs.Common.{◌≡◌, ◌++◌, drop, map}
-use Rattle.alpha_outside.specs.declared.pattern.PatternTerm.TheVariants.{Known}
-use Rattle.ground_search.proofs.covering.known_terms.Given as goal
-
-abbrev pub invariant-loop-t : goal.invariant-loop-t
-invariant-loop-t l = l.terms ++ map Known (drop l.t-index l.args) ≡ map Known l.args

@@ -1,0 +1,9 @@
+pub mod Journals
+pub mod Standing
+pub mod Moves
+pub mod Measures
+pub mod Runs
+pub mod Settling
+pub mod Search
+pub mod Begun
+pub mod Justifying

@@ -1,0 +1,15 @@
+pub mod Going
+pub mod Found
+pub mod Takes
+pub mod Fronts
+pub mod Chosen
+pub mod FieldLemmas
+pub mod Moving
+pub mod ViewLemmas
+pub mod Listing
+pub mod Bodies
+pub mod JoinLemmas
+pub mod Growing
+pub mod NotableLemmas
+pub mod Handing
+pub mod Underivables
