@@ -1,0 +1,4 @@
+pub mod Base
+pub mod States
+pub mod Shapes
+pub mod Reasons

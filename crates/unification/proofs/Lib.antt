@@ -1,0 +1,10 @@
+pub mod PatternTerms
+pub mod Putting
+pub mod HoleLemmas
+pub mod Places
+pub mod Calls
+pub mod Taking
+pub mod Applying
+pub mod Openings
+pub mod Unifier
+pub mod Exactness

@@ -1,0 +1,4 @@
+pub mod Patterns
+pub mod Unifiers
+pub mod Solving
+pub mod Opening
