@@ -6,21 +6,22 @@ use Rattle.alpha_outside.specs.declared.event.Event.{Event}
 use Rattle.alpha_outside.specs.Outside.{Rose, FileIs}
 use Rattle.asp_syntax.specs.declared.tree.Statement.{Statement}
 use Rattle.asp_meaning.specs.Output.{set_lines, IsAnswerSetLine, HaveAll}
-use Rattle.search_theory.specs.Journals.{IsLegal}
+use Rattle.search_theory.specs.Journals.{IsLegal, replay}
 use Rattle.search_journals.specs.Search.{SinkChange, TraceChange, Journaled}
+use Rattle.search_journals.proofs.Lines.{lines_length}
 use Rattle.alpha.specs.declared.status.BudgetKind.{BudgetKind}
 use Rattle.alpha.specs.declared.status.Refusal.{Refusal}
 use Rattle.alpha.specs.declared.status.Status.{Status}
 use Rattle.alpha.specs.declared.status.Status.TheVariants as status
-use Rattle.alpha.specs.Journals.{core_for, rules_for, AreShownLines, AreShownLinesAndOne, LinesAre, AreSpent, AreOverflow, AreTooLarge}
+use Rattle.alpha.specs.Journals.{core_for, rules_for, shown_sets, AreShownLines, AreShownLinesAndOne, LinesAre, AreSpent, AreEnded, AreOverflow, AreTooLarge}
 use Rattle.alpha.specs.TextAnswers.{IsProgramText, IsRefusedText}
-use Rattle.alpha.specs.Promises.{Told, Counts, most_bytes, joined_text, IsRead, IsAccepted, IsRefusedFile, IsOverlong, IsTooLongOf, IsAppended, IsNoted, IsEnded, Gives}
-use Rattle.alpha.specs.Outcomes.{IsStill, WroteAll, Searched, ended, cut_off, untraced, memory, cut_off_memory}
+use Rattle.alpha.specs.Promises.{Told, Counts, most_bytes, most_sets, joined_text, IsRead, IsAccepted, IsRefusedFile, IsOverlong, IsTooLongOf, IsAppended, IsNoted, IsEnded, Gives}
+use Rattle.alpha.specs.Outcomes.{IsStill, WroteAll, WroteFewer, Searched, ended, cut_off, untraced, memory, cut_off_memory}
 use Rattle.alpha.specs.Outcomes.{Treated, unread, refused, searched, Outcome, usage, no_memory, too_long, unreadable, treated}
 use Rattle.alpha.proofs.Appended.{kept_is}
 use Rattle.alpha.proofs.TextLemmas.{one_program, one_refusal, not_refused}
-use Rattle.alpha.proofs.Shown.{Shows, all_lines, shows-all, shows-lines, shows-front, have_all}
-use Rattle.alpha.proofs.Noted.{nothing_journaled, shown_lines, spent, overflow, too_large}
+use Rattle.alpha.proofs.Shown.{Shows, noted_alone, all_lines, shows-all, shows-lines, shows-front, have_all}
+use Rattle.alpha.proofs.Noted.{nothing_journaled, shown_lines, spent, has_ended, overflow, too_large}
 
 -- ---- the file that was read
 
@@ -158,7 +159,7 @@ module _ (told : Told) (shelf : Counts) (sink : SinkChange) (trace : TraceChange
     searched_shows : (s : Status) → Searched P sink trace s → Shows P trace b
     searched_shows s (ended w) = shows-all P sink trace b is s w
     searched_shows s (cut_off rose w) = shows-front P sink trace b is w
-    searched_shows s (untraced rose w) = shows-lines P sink trace b is w
+    searched_shows s (untraced rose w) = shows-lines P sink trace b is (noted_alone P sink trace w)
     searched_shows s (memory w) = shows-lines P sink trace b is w
     searched_shows s (cut_off_memory rose w) = shows-front P sink trace b is w
 
@@ -184,8 +185,8 @@ module _ (told : Told) (shelf : Counts) (sink : SinkChange) (trace : TraceChange
   searched_journal : (s : Status) → Searched P sink trace s → (lines : List (List ℕ)) × Journaled (core_for P) trace lines
   searched_journal s (ended w) = (w.lines, w.journaled)
   searched_journal s (cut_off rose w) = (w.lines, w.journaled)
-  searched_journal s (untraced rose (inl w)) = (w.lines, w.journaled)
-  searched_journal s (untraced rose (inr w)) = (w.lines, w.journaled)
+  searched_journal s (untraced rose (inl w)) = (w.0.lines, w.0.journaled)
+  searched_journal s (untraced rose (inr w)) = (w.0.lines, w.0.journaled)
   searched_journal s (memory (inl w)) = (w.lines, w.journaled)
   searched_journal s (memory (inr w)) = (w.lines, w.journaled)
   searched_journal s (cut_off_memory rose w) = (w.lines, w.journaled)
@@ -216,6 +217,20 @@ module _ (told : Told) (shelf : Counts) (sink : SinkChange) (trace : TraceChange
     came_spent kind number printed s e (not_read rose kept) = absurd (cc)
     came_spent kind number printed s e (done w) = searched_spent kind number printed s e w
 
+    searched_ended : (printed : ℕ) (s : Status) → s ≡ status.Finished printed → Searched P sink trace s → AreEnded P E
+    searched_ended printed s e (ended w) =
+        let at = subst (WroteAll P sink trace) e w in
+        has_ended P trace E noted (record { journal = at.journaled.journal; legal = at.journaled.legal; tells = at.journaled.tells; ended = at.ends.3 })
+    searched_ended printed s e (cut_off rose w) = absurd (cc)
+    searched_ended printed s e (untraced rose w) = absurd (cc)
+    searched_ended printed s e (memory w) = absurd (cc)
+    searched_ended printed s e (cut_off_memory rose w) = absurd (cc)
+
+    came_ended : (printed : ℕ) (s : Status) → s ≡ status.Finished printed → Came P shelf sink trace s → AreEnded P E
+    came_ended printed s e (stopped kept) = absurd (cc)
+    came_ended printed s e (not_read rose kept) = absurd (cc)
+    came_ended printed s e (done w) = searched_ended printed s e w
+
     searched_too_large : (line size printed : ℕ) (s : Status) → s ≡ status.TermTooLarge line size printed → Searched P sink trace s → AreTooLarge P E line size
     searched_too_large line size printed s e (ended w) =
         let at = subst (WroteAll P sink trace) e w in
@@ -243,6 +258,49 @@ module _ (told : Told) (shelf : Counts) (sink : SinkChange) (trace : TraceChange
     came_overflow line op left right printed s e (stopped kept) = absurd (cc)
     came_overflow line op left right printed s e (not_read rose kept) = absurd (cc)
     came_overflow line op left right printed s e (done w) = searched_overflow line op left right printed s e w
+
+    -- so many sets are shown as the journal has lines
+    shown_many : (lines : List (List ℕ)) → Journaled (core_for P) trace lines → length (shown_sets E) ≡ length lines
+    shown_many lines j =
+        let are = shown_lines P trace E noted lines j in
+        sym (lines_length (replay (rules_for P) are.journal) (shown_sets E) lines are.lines_are)
+
+    -- so fewer than are shown at the limit
+    too_few : (lines : List (List ℕ)) → Journaled (core_for P) trace lines → length (shown_sets E) ≡ most_sets → length lines < most_sets → ⊥
+    too_few lines j all few = let many = shown_many lines j in omega (arith, many, all, few)
+
+    ended_limit : (s : Status) → length (shown_sets E) ≡ most_sets → WroteAll P sink trace s → Gives s (status.LimitReached most_sets)
+    ended_limit (status.Finished printed) all w = absurd (too_few w.lines w.journaled all w.ends.1)
+    ended_limit (status.LimitReached printed) all w = inl (ap status.LimitReached (w.ends.0 ∙ sym w.ends.1))
+    ended_limit (status.BudgetSpent kind number printed) all w = absurd (too_few w.lines w.journaled all w.ends.1)
+    ended_limit (status.TermTooLarge line size printed) all w = absurd (too_few w.lines w.journaled all w.ends.1)
+    ended_limit (status.Overflow line op left right printed) all w = absurd (too_few w.lines w.journaled all w.ends.1)
+    ended_limit status.OutOfMemory all w = absurd w.ends
+    ended_limit status.Usage all w = absurd w.ends
+    ended_limit (status.Refused r) all w = absurd w.ends
+    ended_limit (status.TextTooLong name) all w = absurd w.ends
+    ended_limit (status.ReadFault name) all w = absurd w.ends
+    ended_limit status.WriteFault all w = absurd w.ends
+    ended_limit status.TraceFault all w = absurd w.ends
+
+    fewer_noted : WroteFewer P sink trace → length (shown_sets E) ≡ most_sets → ⊥
+    fewer_noted (inl w) all = too_few w.0.lines w.0.journaled all w.1
+    fewer_noted (inr w) all = too_few w.0.lines w.0.journaled all w.1
+
+    searched_limit : (s : Status) → length (shown_sets E) ≡ most_sets → ¬ Rose sink.faults sink.faults' → Searched P sink trace s → Gives s (status.LimitReached most_sets)
+    searched_limit s all write (ended w) = ended_limit s all w
+    searched_limit s all write (cut_off rose w) = absurd (write rose)
+    searched_limit s all write (untraced rose w) = absurd (fewer_noted w all)
+    searched_limit s all write (memory w) = inr refl
+    searched_limit s all write (cut_off_memory rose w) = inr refl
+
+    none_noted : IsStill sink trace → length (shown_sets E) ≡ most_sets → ⊥
+    none_noted kept all = too_few [] (nothing_journaled P trace kept.events) all (omega arith)
+
+    came_limit : (s : Status) → length (shown_sets E) ≡ most_sets → ¬ Rose sink.faults sink.faults' → Came P shelf sink trace s → Gives s (status.LimitReached most_sets)
+    came_limit s all write (stopped kept) = inr refl
+    came_limit s all write (not_read rose kept) = absurd (none_noted kept all)
+    came_limit s all write (done w) = searched_limit s all write w
 
     module _ (b : List ℕ) (is : IsAppended sink.held sink.held' b) where
       -- all lines, or all but one, as the events say
@@ -277,7 +335,7 @@ module _ (told : Told) (shelf : Counts) (sink : SinkChange) (trace : TraceChange
       searched_lines : (s : Status) → Searched P sink trace s → LinesAre P s E (set_lines b)
       searched_lines s (ended w) = lines_of s (ended_lines s w)
       searched_lines s (cut_off rose w) = all_or_one (shows-front P sink trace b is w)
-      searched_lines s (untraced rose w) = all_or_one (shows-lines P sink trace b is w)
+      searched_lines s (untraced rose w) = all_or_one (shows-lines P sink trace b is (noted_alone P sink trace w))
       searched_lines s (memory w) = all_or_one (shows-lines P sink trace b is w)
       searched_lines s (cut_off_memory rose w) = all_or_one (shows-front P sink trace b is w)
 
@@ -308,6 +366,12 @@ module _ (told : Told) (shelf : Counts) (sink : SinkChange) (trace : TraceChange
   module _ (E : List Event) (noted : IsNoted trace.told trace.told' E) where
     pub journal_is_legal : IsLegal (rules_for P) [] E
     journal_is_legal = came_legal told shelf sink trace P E noted s (came told shelf sink trace P asks s a o)
+
+    pub finished_has_ended : (printed : ℕ) → s ≡ status.Finished printed → AreEnded P E
+    finished_has_ended printed e = came_ended told shelf sink trace P E noted printed s e (came told shelf sink trace P asks s a o)
+
+    pub limit_is_reached : length (shown_sets E) ≡ most_sets → ¬ Rose sink.faults sink.faults' → Gives s (status.LimitReached most_sets)
+    limit_is_reached all write = came_limit told shelf sink trace P E noted s all write (came told shelf sink trace P asks s a o)
 
     pub budget_is_spent : (kind : BudgetKind) (number printed : ℕ) → s ≡ status.BudgetSpent kind number printed → AreSpent P E kind number
     budget_is_spent kind number printed e = came_spent told shelf sink trace P E noted kind number printed s e (came told shelf sink trace P asks s a o)

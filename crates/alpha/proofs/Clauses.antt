@@ -13,7 +13,7 @@ use Rattle.alpha.specs.Promises.{Told, Counts, most_bytes, most_sets, joined_tex
 use Rattle.alpha.specs.Outcomes.{IsStill, WroteAll, Searched, ended, cut_off, untraced, memory, cut_off_memory}
 use Rattle.alpha.specs.Outcomes.{Treated, unread, refused, searched, Outcome, usage, no_memory, too_long, unreadable, treated}
 use Rattle.alpha.proofs.Appended.{kept_is, only_appends, only_keeps, only_notes, adds_nothing}
-use Rattle.alpha.proofs.Shown.{ended_output, cut_output, lines_output}
+use Rattle.alpha.proofs.Shown.{noted_alone, ended_output, cut_output, lines_output}
 
 -- the text of a told file
 text_of : (told : Told) (name bytes : List ℕ) (IsSo : List ℕ → Type 0) → FileIs told name bytes → length bytes ≤ most_bytes → IsSo (joined_text bytes) → IsTextOf told name IsSo
@@ -40,7 +40,8 @@ module _ (P : List Statement) (sink : SinkChange) (trace : TraceChange) where
   ended_caused :
       (told : Told) (shelf : Counts) (name : List ℕ) → IsProgramOf told name P → (s : Status) → WroteAll P sink trace s
       → IsCaused (Some name) told shelf sink trace s
-  ended_caused told shelf name of (status.Finished printed) w = (subst (λ n. n < most_sets) (sym w.ends.0) w.ends.1, (name, refl, (P, of)))
+  ended_caused told shelf name of (status.Finished printed) w =
+      (subst (λ n. n < most_sets) (sym w.ends.0) w.ends.1, (name, refl, (P, of, record { journal = w.journaled.journal; legal = w.journaled.legal; tells = w.journaled.tells; ended = w.ends.3 })))
   ended_caused told shelf name of (status.LimitReached printed) w = (w.ends.0 ∙ sym w.ends.1, (name, refl, (P, of)))
   ended_caused told shelf name of (status.BudgetSpent kind number printed) w =
       (subst (λ n. n < most_sets) (sym w.ends.0) w.ends.1, w.ends.2, (name, refl, (P, of, record { journal = w.journaled.journal; legal = w.journaled.legal; tells = w.journaled.tells; used = w.ends.3; one_more = w.ends.4 })))
@@ -61,7 +62,7 @@ module _ (P : List Statement) (sink : SinkChange) (trace : TraceChange) where
   searched_memory : (s : Status) → has_message s ≡ true → Searched P sink trace s → Searched P sink trace status.OutOfMemory
   searched_memory s m (ended w) = let q = ended_quiet s w in absurd (cc)
   searched_memory s m (cut_off rose w) = cut_off_memory rose w
-  searched_memory s m (untraced rose w) = memory w
+  searched_memory s m (untraced rose w) = memory (noted_alone P sink trace w)
   searched_memory s m (memory w) = memory w
   searched_memory s m (cut_off_memory rose w) = cut_off_memory rose w
 
@@ -70,8 +71,8 @@ module _ (P : List Statement) (sink : SinkChange) (trace : TraceChange) where
   searched_appends : (s : Status) → Searched P sink trace s → OnlyAppends sink.held sink.held'
   searched_appends s (ended w) = only_appends sink.held sink.held' _ w.bytes
   searched_appends s (cut_off rose w) = only_appends sink.held sink.held' _ w.bytes
-  searched_appends s (untraced rose (inl w)) = only_appends sink.held sink.held' _ w.bytes
-  searched_appends s (untraced rose (inr w)) = only_appends sink.held sink.held' _ w.bytes
+  searched_appends s (untraced rose (inl w)) = only_appends sink.held sink.held' _ w.0.bytes
+  searched_appends s (untraced rose (inr w)) = only_appends sink.held sink.held' _ w.0.bytes
   searched_appends s (memory (inl w)) = only_appends sink.held sink.held' _ w.bytes
   searched_appends s (memory (inr w)) = only_appends sink.held sink.held' _ w.bytes
   searched_appends s (cut_off_memory rose w) = only_appends sink.held sink.held' _ w.bytes
@@ -82,8 +83,8 @@ module _ (P : List Statement) (sink : SinkChange) (trace : TraceChange) where
   searched_notes : (s : Status) → Searched P sink trace s → OnlyNotes trace.told trace.told'
   searched_notes s (ended w) = journal_notes w.lines w.journaled
   searched_notes s (cut_off rose w) = journal_notes w.lines w.journaled
-  searched_notes s (untraced rose (inl w)) = journal_notes w.lines w.journaled
-  searched_notes s (untraced rose (inr w)) = journal_notes w.lines w.journaled
+  searched_notes s (untraced rose (inl w)) = journal_notes w.0.lines w.0.journaled
+  searched_notes s (untraced rose (inr w)) = journal_notes w.0.lines w.0.journaled
   searched_notes s (memory (inl w)) = journal_notes w.lines w.journaled
   searched_notes s (memory (inr w)) = journal_notes w.lines w.journaled
   searched_notes s (cut_off_memory rose w) = journal_notes w.lines w.journaled
@@ -91,7 +92,7 @@ module _ (P : List Statement) (sink : SinkChange) (trace : TraceChange) where
   searched_output : (b : List ℕ) → IsAppended sink.held sink.held' b → (s : Status) → Searched P sink trace s → OutputIs sink.faults sink.faults' s b
   searched_output b is s (ended w) = ended_output P sink trace b is s w
   searched_output b is s (cut_off rose w) = cut_output P sink trace b is w
-  searched_output b is s (untraced rose w) = lines_output P sink trace b is w
+  searched_output b is s (untraced rose w) = lines_output P sink trace b is (noted_alone P sink trace w)
   searched_output b is s (memory w) = inl (lines_output P sink trace b is w)
   searched_output b is s (cut_off_memory rose w) = inr (rose, cut_output P sink trace b is w)
 

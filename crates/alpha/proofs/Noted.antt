@@ -15,7 +15,7 @@ use Rattle.search_rules.specs.Tests.{Maker}
 use Rattle.search_rules.specs.Rules.{Numbers, Reached}
 use Rattle.search_journals.specs.Search.{TraceChange, Journaled}
 use Rattle.search_journals.specs.Journals.{Step, Tells, strikes, makes, AreLinesOf}
-use Rattle.alpha.specs.Journals.{core_for, rules_for, shown_sets, struck_events, made_events, used_by, used_in, AreShownLines, HasSpent, AreSpent, HasOverflow, AreOverflow, HasTooLarge, AreTooLarge}
+use Rattle.alpha.specs.Journals.{core_for, rules_for, shown_sets, struck_events, made_events, used_by, used_in, AreShownLines, HasSpent, AreSpent, HasEnded, AreEnded, HasOverflow, AreOverflow, HasTooLarge, AreTooLarge}
 use Rattle.alpha.specs.Promises.{IsNoted}
 use Rattle.alpha.specs.declared.status.BudgetKind.{BudgetKind}
 use Rattle.alpha.specs.declared.status.BudgetKind.TheVariants as budget
@@ -258,6 +258,14 @@ module _ (P : List Statement) (trace : TraceChange) where
           count = used_is (rules_for P) kind E h.journal says ∙ h.used;
           one_more = h.one_more;
         }
+
+    pub has_ended : HasEnded P trace → AreEnded P E
+    has_ended h = record {
+      journal = h.journal;
+      legal = h.legal;
+      says = said h.journal h.tells;
+      ended = h.ended;
+    }
 
     pub too_large : (line size : ℕ) → HasTooLarge P trace line size → AreTooLarge P E line size
     too_large line size h = record {

@@ -13,7 +13,7 @@ use Rattle.alpha.specs.declared.status.Status.TheVariants as status
 use Rattle.alpha.specs.Texts.{last_line_of}
 use Rattle.alpha.specs.Promises.{IsAppended, IsLineOfSet, IsSetLines, IsWholeOutput, IsCutOutput, HasPrinted, IsLastLine, OutputIs}
 use Rattle.alpha.specs.Journals.{core_for}
-use Rattle.alpha.specs.Outcomes.{WroteAll, Wrote, WroteOneMore, IsNext, WroteFront}
+use Rattle.alpha.specs.Outcomes.{WroteAll, Wrote, WroteOneMore, WroteFewer, IsNext, WroteFront}
 use Rattle.alpha.proofs.Appended.{appended_is}
 use Rattle.alpha.proofs.LastLine.{last_line_is_other}
 
@@ -41,6 +41,11 @@ once-push (y ∷ ys) x once new = (
   (λ k. elim (∈-append_cases y ys (x ∷ []) k) [ inl l ↦ once.0 l | inr r ↦ elim r [ inl e ↦ new (inl (sym e)) | inr none ↦ none ] ]),
   once-push ys x once.1 (λ k. new (inr k)),
 )
+
+-- what was written, whatever may be
+pub noted_alone : (P : List Statement) (sink : SinkChange) (trace : TraceChange) → WroteFewer P sink trace → Wrote P sink trace ⊎ WroteOneMore P sink trace
+noted_alone P sink trace (inl w) = inl w.0
+noted_alone P sink trace (inr w) = inr w.0
 
 -- ---- how a run ended
 

@@ -1,5 +1,5 @@
 -- From what a search over a core wrote and noted to what came of its program.
-use Rattle.std.proofs.Common.{◌≡◌, ◌≤◌, ◌⊎◌, inl, inr, refl, subst, ℕ, List, take, length, Option, arith}
+use Rattle.std.proofs.Common.{◌≡◌, ◌≤◌, ◌⊎◌, inl, inr, refl, subst, ℕ, ◌<◌, List, take, length, Option, arith}
 use Rattle.std.specs.Prelude.{Ok}
 use Rattle.std.specs.Io.KnownBytes.{Appends, Keeps}
 use Rattle.std.proofs.KnownBytes.{Appends-trans, Appends-kept}
@@ -18,7 +18,7 @@ use Rattle.search_journals.specs.declared.ends.End.TheVariants.{Finished, LimitR
 use Rattle.alpha.specs.Journals.{core_for}
 use Rattle.alpha.specs.Texts.{last_line_of}
 use Rattle.alpha.specs.Promises.{HasPrinted}
-use Rattle.alpha.specs.Outcomes.{defaults, status_of, IsCoreOf, EndsAs, WroteAll, Wrote, WroteOneMore, WroteFront}
+use Rattle.alpha.specs.Outcomes.{defaults, status_of, IsCoreOf, EndsAs, WroteAll, Wrote, WroteOneMore, WroteFewer, WroteFront}
 
 has_printed : (core : Core) (lines : List (List ℕ)) (journal : List Step) (e : End) → EndIs core defaults lines journal e → HasPrinted (length lines) (status_of e)
 has_printed core lines journal (Finished printed) is = is.0
@@ -42,7 +42,7 @@ module _ (P : List Statement) (core : Core) (of : IsCoreOf P core) where
   all_lines lines all = λ I is. all I is.set ((of.answer_sets I is.set).0 is)
 
   ends_as : (lines : List (List ℕ)) (journal : List Step) (e : End) → EndIs (core_for P) defaults lines journal e → EndsAs P lines journal (status_of e)
-  ends_as lines journal (Finished printed) is = (is.0, is.1.sets, all_lines lines is.2)
+  ends_as lines journal (Finished printed) is = (is.0, is.1.sets, all_lines lines is.2, is.3)
   ends_as lines journal (LimitReached printed) is = (is.0, is.1)
   ends_as lines journal (Conflicts printed) is = (is.0, is.1.sets, refl, is.2, is.3)
   ends_as lines journal (Instances printed) is = (is.0, is.1.sets, refl, is.2, is.3)
@@ -132,6 +132,16 @@ module _ (P : List Statement) (core : Core) (of : IsCoreOf P core) where
   -- a front of the line of another set
   pub cut_line : (sink : SinkChange) (trace : TraceChange) → search.WroteFront core sink trace → WroteFront P sink trace
   cut_line sink trace w = front sink trace (subst (λ k. search.WroteFront k sink trace) of.is w)
+
+  -- the lines, fewer than may be written, or one more
+  either_fewer : (sink : SinkChange) (trace : TraceChange) → search.WroteSome (core_for P) defaults sink trace → WroteFewer P sink trace
+  unfolding wrote wrote_one_more
+  either_fewer sink trace (inl w) = inl (wrote sink trace w.0, w.1.sets)
+  either_fewer sink trace (inr w) = inr (wrote_one_more sink trace w.0, w.1.sets)
+
+  pub fewer_lines : (settings : Settings) → settings ≡ defaults → (sink : SinkChange) (trace : TraceChange) → search.WroteSome core settings sink trace → WroteFewer P sink trace
+  fewer_lines settings same sink trace some =
+      either_fewer sink trace (subst (λ k. search.WroteSome k defaults sink trace) of.is (subst (λ s. search.WroteSome core s sink trace) same some))
 
 -- a count that rose from a later value rose from an earlier one
 pub rose_later : (a b c : ℕ) → a ≤ b → Rose b c → Rose a c

@@ -8,7 +8,7 @@ use Rattle.core_rules.specs.declared.rules.Core.{Core}
 use Rattle.single_rules.specs.Splitting.{singles_of}
 use Rattle.rewriting.specs.CoreRules.{core_of}
 use Rattle.search_values.specs.Instances.{Rules}
-use Rattle.search_theory.specs.Journals.{Legal, SaysAll, replay}
+use Rattle.search_theory.specs.Journals.{Legal, SaysAll, replay, IsFinished}
 use Rattle.core_meaning.specs.Atoms.{GroundAtom}
 use Rattle.search_rules.specs.Tests.{Maker}
 use Rattle.search_rules.specs.Rules.{Numbers, Reached, search_rules}
@@ -103,6 +103,22 @@ pub record AreSpent (P : List Statement) (E : List Event) (kind : BudgetKind) (n
   pub says : SaysAll (rules_for P) E journal
   pub count : used_by kind E ≡ number
   pub one_more : HasOneMore kind (core_for P) (replay (rules_for P) journal)
+
+-- ---- the end
+
+-- a legal journal was told of a program, and it has ended: its last nogood was struck at level 0, or a set was found while no literal was chosen
+pub record HasEnded (P : List Statement) (trace : TraceChange) : Type 0 where
+  pub journal : List Step
+  pub legal : Legal (rules_for P) [] journal
+  pub tells : Tells (core_for P) trace.told trace.told' journal
+  pub ended : IsFinished (replay (rules_for P) journal)
+
+-- the events are a legal journal for the program, which has ended so
+pub record AreEnded (P : List Statement) (E : List Event) : Type 0 where
+  pub journal : List Step
+  pub legal : Legal (rules_for P) [] journal
+  pub says : SaysAll (rules_for P) E journal
+  pub ended : IsFinished (replay (rules_for P) journal)
 
 -- ---- a term that is too large
 

@@ -7,7 +7,7 @@ use Rattle.asp_syntax.specs.declared.tree.Statement.{Statement}
 use Rattle.asp_meaning.specs.Atoms.{Atom}
 use Rattle.asp_meaning.specs.Programs.{IsAnswerSet}
 use Rattle.asp_meaning.specs.Output.{IsAnswerSetLine, IsBraceLine, AreAnswerSetLines, HaveAll}
-use Rattle.search_theory.specs.Journals.{replay}
+use Rattle.search_theory.specs.Journals.{replay, IsFinished}
 use Rattle.core_rules.specs.declared.rules.Core.{Core}
 use Rattle.core_meaning.specs.AnswerSets.{HasCoreSets}
 use Rattle.search_rules.specs.Faults.{IsOverflow, IsTooLarge}
@@ -52,7 +52,8 @@ status_of (end.TermTooLarge line size printed) = status.TermTooLarge line size p
 
 -- how a run ends by itself, after these lines and this journal: at the limit exactly where as many lines were written
 abbrev pub EndsAs : List Statement → List (List ℕ) → List Step → Status → Type 0
-EndsAs P lines journal (status.Finished printed) = (printed ≡ length lines) × (length lines < most_sets) × HaveAll P lines
+EndsAs P lines journal (status.Finished printed) =
+    (printed ≡ length lines) × (length lines < most_sets) × HaveAll P lines × IsFinished (replay (rules_for P) journal)
 EndsAs P lines journal (status.LimitReached printed) = (printed ≡ length lines) × (most_sets ≡ length lines)
 EndsAs P lines journal (status.BudgetSpent kind number printed) =
     (printed ≡ length lines) × (length lines < most_sets) × (number ≡ most_of kind) × (used_in kind journal ≡ number) × HasOneMore kind (core_for P) (replay (rules_for P) journal)
@@ -85,6 +86,10 @@ pub record WroteOneMore (P : List Statement) (sink : SinkChange) (trace : TraceC
   pub sets : AreAnswerSetLines P (lines ++ next ∷ [])
   pub journaled : Journaled (core_for P) trace lines
 
+-- either, with fewer lines in the journal than may be written
+abbrev pub WroteFewer : List Statement → SinkChange → TraceChange → Type 0
+WroteFewer P sink trace = ((w : Wrote P sink trace) × (length w.lines < most_sets)) ⊎ ((w : WroteOneMore P sink trace) × (length w.lines < most_sets))
+
 -- the line of another answer set than these, or the last line behind them
 abbrev pub IsNext : List Statement → List (List ℕ) → List ℕ → Type 0
 IsNext P lines next = (IsAnswerSetLine P next × IsBraceLine next × (¬ (next ∈ lines))) ⊎ IsLastLine (length lines) next
@@ -103,7 +108,7 @@ pub record WroteFront (P : List Statement) (sink : SinkChange) (trace : TraceCha
 pub data Searched (P : List Statement) (sink : SinkChange) (trace : TraceChange) : Status → Type 0 where
   ended : {s : Status} → WroteAll P sink trace s → Searched P sink trace s
   cut_off : Rose sink.faults sink.faults' → WroteFront P sink trace → Searched P sink trace status.WriteFault
-  untraced : Rose trace.faults trace.faults' → Wrote P sink trace ⊎ WroteOneMore P sink trace → Searched P sink trace status.TraceFault
+  untraced : Rose trace.faults trace.faults' → WroteFewer P sink trace → Searched P sink trace status.TraceFault
   memory : Wrote P sink trace ⊎ WroteOneMore P sink trace → Searched P sink trace status.OutOfMemory
   cut_off_memory : Rose sink.faults sink.faults' → WroteFront P sink trace → Searched P sink trace status.OutOfMemory
 

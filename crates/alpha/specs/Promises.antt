@@ -9,7 +9,7 @@ use Rattle.asp_meaning.specs.Lines.{IsSetLine}
 use Rattle.search_journals.specs.Search.{SinkChange, TraceChange}
 use Rattle.alpha.specs.TextAnswers.{IsProgramText, IsRefusedText}
 use Rattle.alpha.specs.Texts.{last_line_of, message_of}
-use Rattle.alpha.specs.Journals.{HasSpent, HasOverflow, HasTooLarge}
+use Rattle.alpha.specs.Journals.{HasSpent, HasEnded, HasOverflow, HasTooLarge}
 use Rattle.alpha.specs.declared.status.BudgetKind.{BudgetKind}
 use Rattle.alpha.specs.declared.status.BudgetKind.TheVariants as budget
 use Rattle.alpha.specs.declared.status.Refusal.{Refusal}
@@ -222,7 +222,8 @@ IsOfProgram asks told = (name : List ℕ) × (asks ≡ Some name) × ((P : List 
 -- Each status but want of memory comes only by its cause: for the words, the told files, and the shelf, the output's sink and the trace
 -- before and after the run. A search that ends by itself reaches the limit exactly where it wrote as many sets.
 abbrev pub IsCaused : Option (List ℕ) → Told → Counts → SinkChange → TraceChange → Status → Type 0
-IsCaused asks told shelf sink trace (status.Finished printed) = (printed < most_sets) × IsOfProgram asks told
+IsCaused asks told shelf sink trace (status.Finished printed) =
+    (printed < most_sets) × ((name : List ℕ) × (asks ≡ Some name) × ((P : List Statement) × IsProgramOf told name P × HasEnded P trace))
 IsCaused asks told shelf sink trace (status.LimitReached printed) = (printed ≡ most_sets) × IsOfProgram asks told
 IsCaused asks told shelf sink trace (status.BudgetSpent kind number printed) =
     (printed < most_sets) × (number ≡ most_of kind) × ((name : List ℕ) × (asks ≡ Some name) × ((P : List Statement) × IsProgramOf told name P × HasSpent P trace kind number))

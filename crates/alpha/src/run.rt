@@ -11,8 +11,8 @@ ghost use Rattle.search_theory.specs.Journals.{IsLegal};
 ghost use Rattle.search_rules.specs.Stage.{IsSearchable};
 ghost use Rattle.alpha.specs.Words.{asked};
 ghost use Rattle.alpha.specs.Texts.{has_message};
-ghost use Rattle.alpha.specs.Journals.{rules_for, LinesAre, AreSpent, AreOverflow, AreTooLarge};
-ghost use Rattle.alpha.specs.Promises.{IsAccepted, IsRefusedFile, IsOverlong, IsAppended, OnlyAppends, OutputIs, MessageIs, IsNoted, OnlyNotes, NameIsKept};
+ghost use Rattle.alpha.specs.Journals.{rules_for, shown_sets, LinesAre, AreSpent, AreEnded, AreOverflow, AreTooLarge};
+ghost use Rattle.alpha.specs.Promises.{IsAccepted, IsRefusedFile, IsOverlong, IsAppended, OnlyAppends, OutputIs, MessageIs, IsNoted, OnlyNotes, NameIsKept, most_sets};
 ghost use Rattle.alpha.specs.Promises.{IsUnsearched, IsEnded, IsRefusedWords, IsCaused, Gives, Counts, joined_text};
 ghost use Rattle.alpha.specs.Outcomes.{IsCoreOf, Searched, Treated, Outcome, defaults, status_of, IsReadFaultOf, IsTextTooLongOf};
 ghost use Rattle.alpha.specs.declared.status.Refusal.{Refusal as Reason};
@@ -234,6 +234,10 @@ pub fn run<F: Shelf, O: Sink, E: Sink, T: Trace>(
     ensures finished_is_complete { (P : List Rule) (b : List ℕ) (printed : ℕ) → IsAccepted (asked (map string_bytes words.now)) (F.files shelf.old) P
         → IsAppended (O.held out.old) (O.held out.new) b → result ≡ Status.Finished printed → HaveAll P (set_lines b) }
 
+    // And the journal has ended: its last nogood was struck at level 0, or a set was found while no literal was chosen.
+    ensures finished_has_ended { (P : List Rule) (E : List Event) (printed : ℕ) → IsAccepted (asked (map string_bytes words.now)) (F.files shelf.old) P
+        → IsNoted (T.journal trace.old) (T.journal trace.new) E → result ≡ Status.Finished printed → AreEnded P E }
+
     // The events are a legal journal of the program: what a lawful search may note. So each instance was made when its positive atoms
     // were true or had to be.
     ensures journal_is_legal { (P : List Rule) (E : List Event) → IsAccepted (asked (map string_bytes words.now)) (F.files shelf.old) P
@@ -243,6 +247,11 @@ pub fn run<F: Shelf, O: Sink, E: Sink, T: Trace>(
     ensures lines_are_shown_events { (P : List Rule) (b : List ℕ) (E : List Event) → IsAccepted (asked (map string_bytes words.now)) (F.files shelf.old) P
         → IsAppended (O.held out.old) (O.held out.new) b → IsNoted (T.journal trace.old) (T.journal trace.new) E
         → LinesAre P result E (set_lines b) }
+
+    // Where as many sets were noted as shown as may be written, and no write failed, the limit is reached.
+    ensures limit_is_reached { (P : List Rule) (E : List Event) → IsAccepted (asked (map string_bytes words.now)) (F.files shelf.old) P
+        → IsNoted (T.journal trace.old) (T.journal trace.new) E → length (shown_sets E) ≡ most_sets
+        → ¬ Rose (O.faults out.old) (O.faults out.new) → Gives result (Status.LimitReached most_sets) }
 
     // Where the budget of conflicts is spent, so many nogoods were struck, and one more is; where that of instances is, so many were made,
     // and one more is due.

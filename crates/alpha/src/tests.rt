@@ -1,6 +1,11 @@
+ghost use Rattle.std.specs.Prelude.{◌≤◌, length};
+
+use crate::cores::core_for;
 use crate::run::run;
 use crate::status::{BudgetKind, Refusal, Status, last_line, message};
-use alpha_outside::{Event, List, MemShelf, MemSink, MemTrace, Name};
+use crate::text::read_text;
+use alpha_outside::{ArithOp, Event, List, Maker, MemShelf, MemSink, MemTrace, Name, NoTrace};
+use enumerator::{End, Settings, search};
 use std::alloc::Global;
 use std::test::Fail;
 
@@ -147,19 +152,102 @@ fn ends_with_a_set(events: &[Event]) -> bool {
     }
 }
 
+// The status of a run over this one file, which notes to the trace.
+fn traced(alloc: Global, text: &[u8], trace: &mut MemTrace) -> Result<Status, Fail> {
+    let words = owned(alloc, "solve p.lp")?;
+    let mut shelf = MemShelf::new(alloc, List::new(alloc));
+    shelf.add(alloc, b"p.lp", text)?;
+    let mut out = MemSink::new(alloc, List::new(alloc), 0);
+    let mut err = MemSink::new(alloc, List::new(alloc), 0);
+    Ok(run(alloc, &words, &mut shelf, &mut out, &mut err, trace))
+}
+
 // The body of the choice had to be true before it was chosen, so no literal was chosen, and the set is the last one.
 #[test]
 fn a_choice_that_must_be_taken_ends_with_its_set(rt: HostRuntime) -> Result<(), Fail> {
-    let alloc = rt.alloc();
-    let words = owned(alloc, "solve p.lp")?;
-    let mut shelf = MemShelf::new(alloc, List::new(alloc));
-    shelf.add(alloc, b"p.lp", b"{a}. :- not a.")?;
-    let mut out = MemSink::new(alloc, List::new(alloc), 0);
-    let mut err = MemSink::new(alloc, List::new(alloc), 0);
-    let mut trace = MemTrace::new(alloc, List::new(alloc));
-    let status = run(alloc, &words, &mut shelf, &mut out, &mut err, &mut trace);
+    let mut trace = MemTrace::new(rt.alloc(), List::new(rt.alloc()));
+    let status = traced(rt.alloc(), b"{a}. :- not a.", &mut trace)?;
     assert_eq!(rt; status.code(), 0);
     assert!(rt; ends_with_a_set(trace.events()));
+    Ok(())
+}
+
+// How many instances of the core rule of this number were made.
+fn made(events: &[Event], number: u32) -> usize {
+    events
+        .iter()
+        .filter(|event| match event {
+            Event::Made { maker, .. } => match maker {
+                Maker::Rule { rule, .. } => *rule == number,
+                Maker::Step(_) => false,
+            },
+            _ => false,
+        })
+        .count()
+}
+
+#[test]
+fn rules_that_are_not_reached_have_no_instances(rt: HostRuntime) -> Result<(), Fail> {
+    // The text, the number of a rule that is reached, how many instances it has, and the number of the one that isn't.
+    let rows = [
+        (
+            b"p(0). q(X) :- p(X), not r(X). r(X) :- p(X), not q(X). s(X,Y) :- q(X), d(Y).".as_slice(),
+            1,
+            1,
+            3,
+        ),
+        (
+            b"{stop}. :- not stop. n(0) :- not stop. n(f(X)) :- n(X).".as_slice(),
+            2,
+            1,
+            3,
+        ),
+    ];
+    for (text, reached, many, unreached) in rows {
+        let mut trace = MemTrace::new(rt.alloc(), List::new(rt.alloc()));
+        let status = traced(rt.alloc(), text, &mut trace)?;
+        assert_eq!(rt; status.code(), 0);
+        assert_eq!(rt; made(trace.events(), reached), many);
+        assert_eq!(rt; made(trace.events(), unreached), 0);
+    }
+    Ok(())
+}
+
+// How the search for the sets of a text ends, where so many instances may be made, and none if there is no search.
+fn ended(alloc: Global, text: &[u8], instances: u64, out: &mut MemSink) -> Option<End>
+    requires { length text.now ≤ 16777217 }
+{
+    let Ok(program) = read_text(alloc, text) else {
+        return None;
+    };
+    let Ok(core) = core_for(alloc, program) else {
+        return None;
+    };
+    let settings = Settings {
+        limit: 10,
+        conflicts: 10,
+        instances,
+    };
+    match search(alloc, core, settings, out, &mut NoTrace) {
+        Ok(end) => Some(end),
+        Err(_) => None,
+    }
+}
+
+// Whether the search ended with the budget of instances, with nothing printed.
+fn is_spent(end: &Option<End>) -> bool {
+    match end {
+        Some(End::Instances { printed }) => *printed == 0,
+        _ => false,
+    }
+}
+
+#[test]
+fn an_endless_rule_ends_with_its_budget(rt: HostRuntime) -> Result<(), Fail> {
+    let mut out = MemSink::new(rt.alloc(), List::new(rt.alloc()), 0);
+    let end = ended(rt.alloc(), b"p(0). p(f(X)) :- p(X).", 5, &mut out);
+    assert!(rt; is_spent(&end));
+    assert!(rt; out.bytes().is_empty());
     Ok(())
 }
 
@@ -316,6 +404,48 @@ fn arithmetic_at_its_ends(rt: HostRuntime) -> Result<(), Fail> {
     ];
     for (text, want) in rows {
         assert_eq!(rt; solved(rt.alloc(), text)?.as_str(), want);
+    }
+    Ok(())
+}
+
+#[test]
+fn an_overflow_holds_its_operation(rt: HostRuntime) -> Result<(), Fail> {
+    let mut trace = MemTrace::new(rt.alloc(), List::new(rt.alloc()));
+    let text = b"p(9223372036854775807). q(X+1) :- p(X).";
+    match traced(rt.alloc(), text, &mut trace)? {
+        Status::Overflow {
+            line,
+            op,
+            left,
+            right,
+            printed,
+        } => {
+            assert_eq!(rt; line, 1);
+            assert_eq!(rt; op, ArithOp::Add);
+            assert_eq!(rt; left, i64::MAX);
+            assert_eq!(rt; right, 1);
+            assert_eq!(rt; printed, 0);
+        }
+        _ => assert!(rt; false),
+    }
+    Ok(())
+}
+
+#[test]
+fn a_term_that_is_too_large_holds_its_size(rt: HostRuntime) -> Result<(), Fail> {
+    let mut trace = MemTrace::new(rt.alloc(), List::new(rt.alloc()));
+    let text = b"t(0,a). t(N+1,f(X,X)) :- t(N,X), N < 25.";
+    match traced(rt.alloc(), text, &mut trace)? {
+        Status::TermTooLarge {
+            line,
+            size,
+            printed,
+        } => {
+            assert_eq!(rt; line, 1);
+            assert_eq!(rt; size, 2_097_151);
+            assert_eq!(rt; printed, 0);
+        }
+        _ => assert!(rt; false),
     }
     Ok(())
 }

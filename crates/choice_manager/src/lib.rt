@@ -7,4 +7,5 @@ mod choices;
 #[cfg(test)]
 mod tests;
 
+pub use active::active_body;
 pub use choices::Choices;

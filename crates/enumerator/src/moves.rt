@@ -87,7 +87,7 @@ fn is_stuck_since(search: &Search) -> bool
     ensures yes { result ≡ true → SomeMustBe search.now × HasClosed search.now.stack }
     ensures no { result ≡ false → NoneSince search.now }
 {
-    search.must_be().is_some() && search.has_closed()
+    search.has_closed() && search.must_be().is_some()
 }
 
 // What comes next where the state is settled.

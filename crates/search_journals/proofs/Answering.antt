@@ -156,6 +156,7 @@ module _ (core : Core) (searchable : IsSearchable core) (journal : List Step) (l
       count_is printed left settings.limit sets_left all,
       within settings (fewer left settings.limit sets_left how.0) (no_more rest settings.conflicts strikes_left) few,
       all_are how.1,
+      how.1,
     )
     end_is settings told held finish.LimitReached left rest printed sets_left strikes_left few how all =
         let count : printed ≡ length (reverse lines) = count_is printed left settings.limit sets_left all in

@@ -10,7 +10,7 @@ use Rattle.asp_meaning.specs.Output.{IsBraceLine}
 use Rattle.core_rules.specs.declared.rules.Core.{Core}
 use Rattle.core_meaning.specs.AnswerSets.{HasCoreSets}
 use Rattle.search_theory.specs.States.{State}
-use Rattle.search_theory.specs.Journals.{Legal, replay}
+use Rattle.search_theory.specs.Journals.{Legal, replay, IsFinished}
 use Rattle.search_rules.specs.Rules.{search_rules}
 use Rattle.search_rules.specs.Faults.{IsOverflow, IsTooLarge}
 use Rattle.search_journals.specs.Journals.{Step, Tells, strikes, makes, SomeStruck, IsSomeDue, AreLinesOf}
@@ -95,9 +95,11 @@ pub record IsWithin (settings : Settings) (lines : List (List ℕ)) (journal : L
   pub struck : strikes journal ≤ settings.conflicts
   pub made : makes journal ≤ settings.instances
 
--- how a search ends by itself, after these lines and this journal: at the limit exactly where as many lines were written
+-- How a search ends by itself, after these lines and this journal. It is finished only where the journal has ended, and at the limit exactly
+-- where as many lines were written
 abbrev pub EndIs : Core → Settings → List (List ℕ) → List Step → End → Type 0
-EndIs core settings lines journal (Finished printed) = (printed ≡ length lines) × IsWithin settings lines journal × HaveAllOf core lines
+EndIs core settings lines journal (Finished printed) =
+    (printed ≡ length lines) × IsWithin settings lines journal × HaveAllOf core lines × IsFinished (replay (search_rules core) journal)
 EndIs core settings lines journal (LimitReached printed) = (printed ≡ length lines) × (settings.limit ≡ length lines)
     × (strikes journal ≤ settings.conflicts) × (makes journal ≤ settings.instances)
 EndIs core settings lines journal (Conflicts printed) =

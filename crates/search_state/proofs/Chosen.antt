@@ -1,28 +1,20 @@
 -- Entries of a stack, and the literals chosen.
-use Rattle.std.proofs.Common.{◌≡◌, ℕ, ◌+◌, ◌-◌, ◌<◌, ◌≤◌, Bool, true, false, ◌&&◌, cond, List, [], ◌∷◌, ◌++◌, length, reverse, take, drop, get_or, true≢false, refl, sym, ◌∙◌, ap, subst, inl, inr, arith, append_assoc}
+use Rattle.std.proofs.Common.{◌≡◌, ℕ, ◌+◌, ◌-◌, ◌≤◌, Bool, true, false, ◌&&◌, cond, List, [], ◌∷◌, ◌++◌, length, reverse, take, drop, get_or, true≢false, refl, sym, ◌∙◌, ap, subst, inl, inr, arith, append_assoc}
 use Rattle.std.specs.Prelude.{Option, Some, None, nat_eq, is_none}
 use Rattle.std.specs.Option.{option_map, option_eq}
 use lib.Dec.{eqb}
 use Rattle.std.proofs.lemmas.Option.{none-some}
 use Rattle.std.proofs.lemmas.Bool.{eq-eqb}
 use Rattle.std.proofs.lemmas.Bool.Decides.{eqb_tells}
-use Rattle.std.proofs.lemmas.List.{take_more, take-append-drop, reverse-append, reverse-reverse}
-use Rattle.lists.specs.Lists.{◌∈◌}
-use Rattle.lists.proofs.ListLemmas.{∈-append_left, ∈-append_right}
+use Rattle.std.proofs.lemmas.List.{reverse-reverse}
 use Rattle.search_values.specs.declared.entry.Entry.{Entry}
 use Rattle.search_values.specs.declared.entry.Why.{Why}
 use Rattle.search_values.specs.declared.entry.Why.TheVariants.{Given, Chosen, Closed}
 use Rattle.search_values.specs.Values.{Value, MustBe, Lit, lit, is_up, value_of, opened, level_of, first_level, chosen, chosen_with}
 use Rattle.search_values.proofs.Basics.{value_cases, nat_eq-same}
 use Rattle.trail.specs.Assigning.{IsStackOf, first_level_of}
+use Rattle.search_fronts.proofs.Walking.{EntryAt, entry_at, stack_below}
 use Rattle.search_state.specs.Searching.{adds_choice, jump_by, jump_of}
-
--- a member of a list turned round is one of the list
-pub ∈-reverse : {A : Type 0} (x : A) (xs : List A) → x ∈ xs → x ∈ reverse xs
-∈-reverse x [] h = h
-∈-reverse x (y ∷ xs) (inl e) = subst (λ ys. x ∈ ys) (sym (reverse-append (y ∷ []) xs)) (∈-append_right x (reverse xs) (y ∷ []) (inl e))
-∈-reverse x (y ∷ xs) (inr h) = subst (λ ys. x ∈ ys) (sym (reverse-append (y ∷ []) xs))
-    (∈-append_left x (reverse xs) (y ∷ []) (∈-reverse x xs h))
 
 -- ---- levels of first values
 
@@ -59,11 +51,6 @@ first_le (e ∷ rest) a = go (nat_eq e.atom a && is_none (value_of rest a)) (fir
         (first_level rest a) ≤ level_of rest + opened e.why
     go true h = omega arith
     go false h = omega arith
-
--- the entries below are a stack as well
-stack_below : (atoms : ℕ) (above below : List Entry) → IsStackOf atoms (above ++ below) → IsStackOf atoms below
-stack_below atoms [] below are = are
-stack_below atoms (e ∷ above) below are = stack_below atoms above below are.1
 
 -- the level of a decision's atom, where it had this value before
 first_level-at : (rest : List Entry) (e : Entry) (before : Option Value) → value_of rest e.atom ≡ before
@@ -120,45 +107,6 @@ older_up atoms stack above rest e are cut other = by_before (value_of rest e.ato
     by_before (Some v) is = elim below.0.may [ inl none ↦ absurd (none-some v (sym none ∙ is)) | inr may ↦ (MustBe, may.0, refl) ]
 
 -- ---- going down the stack
-
--- what is in the entries, the oldest first, is on the stack
-pub in_stack : (stack entries : List Entry) (e : Entry) → entries ≡ reverse stack → e ∈ entries → e ∈ stack
-in_stack stack entries e turned among = subst (λ s. e ∈ s) (ap reverse turned ∙ reverse-reverse stack) (∈-reverse e entries among)
-
--- and what is on the stack is in them
-pub in_entries : (stack entries : List Entry) (e : Entry) → entries ≡ reverse stack → e ∈ stack → e ∈ entries
-in_entries stack entries e turned among = subst (λ s. e ∈ s) (sym turned) (∈-reverse e stack among)
-
--- the entry at a place, and the stack below it
-record EntryAt (entries : List Entry) (j : ℕ) (e : Entry) : Type 0 where
-  first : reverse (take (j + 1) entries) ≡ e ∷ reverse (take j entries)
-  cut : reverse entries ≡ reverse (drop (j + 1) entries) ++ e ∷ reverse (take j entries)
-
--- each place has its entry
-entry_at : (entries : List Entry) (j : ℕ) (e : Entry) → j < length entries → e ≡ get_or entries j e → EntryAt entries j e
-entry_at entries j e h here =
-    let one : take (j + 1) entries ≡ take j entries ++ e ∷ [] = take_more entries j e h ∙ ap (λ (z : Entry). take j entries ++ z ∷ [])
-    (sym here) in
-    let turned : reverse (take (j + 1) entries) ≡ e ∷ reverse (take j entries) = ap reverse one ∙ reverse-append (take j entries)
-    (e ∷ []) in
-    record {
-      first = turned;
-      cut = ap reverse (sym (take-append-drop (j + 1) entries)) ∙ reverse-append (take (j + 1) entries) (drop (j + 1) entries) ∙ ap
-          (λ s. reverse (drop (j + 1) entries) ++ s) turned;
-    }
-
--- the stack above and below the entry at a place
-pub cut_at : (stack entries : List Entry) (j : ℕ) (e : Entry) → entries ≡ reverse stack → j < length entries → e ≡ get_or entries j e
-    → stack ≡ reverse (drop (j + 1) entries) ++ e ∷ reverse (take j entries)
-cut_at stack entries j e turned h here = sym (ap reverse turned ∙ reverse-reverse stack) ∙ (entry_at entries j e h here).cut
-
--- the atom of an entry has its place
-pub entry_placed : (atoms : ℕ) (stack entries : List Entry) → entries ≡ reverse stack → IsStackOf atoms stack → (j : ℕ) (e : Entry)
-    → j < length entries → e ≡ get_or entries j e → e.atom < atoms
-entry_placed atoms stack entries turned are j e h here =
-    let whole : stack ≡ reverse (drop (j + 1) entries) ++ e ∷ reverse (take j entries) = sym (ap reverse turned ∙ reverse-reverse stack) ∙
-    (entry_at entries j e h here).cut in
-    (stack_below atoms (reverse (drop (j + 1) entries)) (e ∷ reverse (take j entries)) (subst (λ s. IsStackOf atoms s) whole are)).0.placed
 
 -- an entry that adds a choice adds its literal
 choice_yes : (w : Why) (before : Option Value) (l : Lit) (ls : List Lit) → adds_choice w before ≡ true → chosen_with w before l ls ≡ l ∷ ls

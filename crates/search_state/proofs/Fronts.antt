@@ -9,7 +9,7 @@ use Rattle.term_pool.proofs.PlaceLemmas.{get-before}
 use Rattle.atom_pool.specs.declared.atom.AtomNode.{AtomNode}
 use Rattle.atom_pool.specs.Pools.{Pool}
 use Rattle.search_state.specs.Searching.{oldest, rises, is_named_node}
-use Rattle.search_state.proofs.Chosen.{in_stack}
+use Rattle.search_fronts.proofs.Walking.{in_stack}
 use Rattle.search_state.proofs.Going.{∈-take}
 
 -- entries that come don't change the oldest

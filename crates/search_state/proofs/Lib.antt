@@ -13,3 +13,4 @@ pub mod Growing
 pub mod NotableLemmas
 pub mod Handing
 pub mod Underivables
+pub mod Looking

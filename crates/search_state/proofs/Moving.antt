@@ -41,7 +41,7 @@ abbrev ArePlaced : ℕ → List Nogood → Type 0
 ArePlaced n ngs = (ng : Nogood) → ng ∈ ngs → LitsAreBelow n ng.lits
 
 -- entries of atoms that are there have come onto the stack
-abbrev IsAbove : ℕ → List Entry → List Entry → Type 0
+abbrev pub IsAbove : ℕ → List Entry → List Entry → Type 0
 IsAbove n from stack = (above : List Entry) × (stack ≡ above ++ from) × ((e : Entry) → e ∈ above → e.atom < n)
 
 -- one entry more
@@ -82,19 +82,26 @@ same_there f ties store same s i =
     let was = ∈-map_from bare (bare s) f.store (subst (λ bs. bare s ∈ bs) same (∈-map bare s store i)) in
     subst (LitsAreBelow (length f.ground.atoms.atoms)) (sym (ap (λ (b : List Lit × Option ℕ). b.0) was.2)) (ties.lits_placed was.0 was.1)
 
+-- what a propagation puts onto the stack, also before a fault
+pub risen_by : (f : Fields) → Ties f → (store : List Stored) (trail : Trailed) (told told' : Option Journal) (r : Result Fix PropFault)
+    → IfOk r (λ fix. Propagated f.store store f.trail trail told told')
+    → IfErr r (λ e. Faulted f.store store f.trail trail told told') → IsAbove (length f.ground.atoms.atoms) f.trail.stack trail.stack
+risen_by f ties store trail told told' (Ok fix) p e =
+    puts_above (length f.ground.atoms.atoms) (map nogood_of f.store) f.trail.stack (nogoods_there f ties) p.events trail.stack p.puts
+risen_by f ties store trail told told' (Err fault) p e =
+    more_above (length f.ground.atoms.atoms) (map nogood_of f.store) f.trail.stack e.stack trail.stack (nogoods_there f ties) e.more
+    (puts_above (length f.ground.atoms.atoms) (map nogood_of f.store) f.trail.stack (nogoods_there f ties) e.events e.stack e.puts)
+
 -- after a propagation the fields keep to one another, also after a fault
 pub ties_after : (f : Fields) → Ties f → (store : List Stored) (trail : Trailed) (told told' : Option Journal) (r : Result Fix PropFault)
     → IfOk r (λ fix. Propagated f.store store f.trail trail told told')
     → IfErr r (λ e. Faulted f.store store f.trail trail told told') → Ties
     (fields f.core f.ground f.told f.memory f.risen f.joined f.choices store trail)
 ties_after f ties store trail told told' (Ok fix) p e =
-    let above = puts_above (length f.ground.atoms.atoms) (map nogood_of f.store) f.trail.stack
-    (nogoods_there f ties) p.events trail.stack p.puts in
+    let above = risen_by f ties store trail told told' (Ok fix) p e in
     ties_risen f ties above.0 store trail (ap (λ (t : Trailed). t.atoms) p.trail) above.1 above.2 (same_there f ties store p.same) p.matches
 ties_after f ties store trail told told' (Err fault) p e =
-    let there = nogoods_there f ties in
-    let above = more_above (length f.ground.atoms.atoms) (map nogood_of f.store) f.trail.stack e.stack trail.stack there e.more
-    (puts_above (length f.ground.atoms.atoms) (map nogood_of f.store) f.trail.stack there e.events e.stack e.puts) in
+    let above = risen_by f ties store trail told told' (Err fault) p e in
     ties_risen f ties above.0 store trail (ap (λ (t : Trailed). t.atoms) e.trail) above.1 above.2 (same_there f ties store e.same) e.matches
 
 -- the literals of the stored nogoods have places

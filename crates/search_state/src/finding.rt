@@ -6,7 +6,6 @@ ghost use Rattle.alpha_outside.specs.declared.literal.Value.TheVariants.{True, M
 ghost use Rattle.asp_meaning.specs.Atoms.{Atom as Fact};
 ghost use Rattle.asp_meaning.specs.Lines.{IsSetLine};
 ghost use Rattle.core_meaning.specs.Atoms.{User as OfProgram};
-ghost use Rattle.search_values.specs.declared.entry.Why.TheVariants.{Closed};
 ghost use Rattle.search_values.specs.Values.{value_of, chosen as chosen_of, HasClosed};
 ghost use Rattle.search_values.specs.Ids.{Names};
 ghost use Rattle.search_theory.specs.States.{IsActive};
@@ -19,6 +18,7 @@ ghost use Rattle.search_state.specs.Moves.{NoChoice, IsNamed, AreTrueNames, AreT
 use crate::search::Search;
 use alpha_outside::{AtomId, List, Lit, OutOfMemory, Value};
 use answer_printer::{set_line, sorted_atoms};
+use search_fronts::first_active;
 use search_values::{Entry, Why};
 use trail::Trail;
 
@@ -31,13 +31,6 @@ fn is_true(value: Option<Value>) -> bool
         Some(Value::True) => true,
         _ => false,
     }
-}
-
-fn is_closed(entry: &Entry) -> bool
-    ensures yes { result ≡ true → (reason : Option ℕ) × (entry.now.why ≡ Closed reason) }
-    ensures no { result ≡ false → (reason : Option ℕ) → ¬ (entry.now.why ≡ Closed reason) }
-{
-    matches!(entry.why, Why::Closed(_))
 }
 
 // Whether the entry adds to the literals chosen: it is a decision, and its atom has no older entry.
@@ -60,8 +53,7 @@ impl Search {
         ensures some { IfSome result (λ b. (b < ids self.now) × ((k : Made Rule) × (k ∈ made self.now) × IsActive (state_of self.now) k b)) }
         ensures none { IfNone result (NoChoice self.now) }
     {
-        self.choices
-            .next_active(&self.ground.instances, &self.trail)
+        first_active(&self.ground.instances, &self.trail, self.fronts.settled)
     }
 
     // Whether the id is that of a named atom, and not of a body.
@@ -78,7 +70,7 @@ impl Search {
         ensures some { IfSome result (λ x. IsNamed self.now x × (value_of self.now.stack x ≡ Some MustBe)) }
         ensures none { IfNone result ((x : ℕ) → IsNamed self.now x → ¬ (value_of self.now.stack x ≡ Some MustBe)) }
     {
-        for x in 0..self.told.atoms {
+        for x in self.fronts.not_must..self.told.atoms {
             if self.trail.value(AtomId(x)) == Some(Value::MustBe) && self.is_named(AtomId(x)) {
                 return Some(AtomId(x));
             }
@@ -91,7 +83,7 @@ impl Search {
         ensures some { IfSome result (λ x. IsNamed self.now x × (value_of self.now.stack x ≡ None)) }
         ensures none { IfNone result ((x : ℕ) → IsNamed self.now x → ¬ (value_of self.now.stack x ≡ None)) }
     {
-        for x in 0..self.told.atoms {
+        for x in self.fronts.assigned..self.told.atoms {
             if self.trail.value(AtomId(x)).is_none() && self.is_named(AtomId(x)) {
                 return Some(AtomId(x));
             }
@@ -142,12 +134,7 @@ impl Search {
         ensures yes { result ≡ true → HasClosed self.now.stack }
         ensures no { result ≡ false → ¬ HasClosed self.now.stack }
     {
-        for entry in self.trail.entries() {
-            if is_closed(entry) {
-                return true;
-            }
-        }
-        false
+        self.fronts.has_closed(&self.trail)
     }
 
     /// The literals chosen, the newest first.

@@ -55,12 +55,15 @@ impl Search {
         ensures placed { IsAllTold self.old → NogoodsArePlaced self.old }
         ensures ids_fit { ids self.old < 2 ^ 32 }
     {
-        propagate_counted::<T, Brand>(
+        let from = self.trail.entries().len();
+        let fix = propagate_counted::<T, Brand>(
             self.alloc,
             &mut self.nogoods,
             &mut self.trail,
             trace,
             Blank::new(1),
-        )
+        );
+        self.fronts.take_up(&self.trail, from);
+        fix
     }
 }

@@ -23,6 +23,7 @@ use ground_noting::Told;
 use lazy_grounder::Grounder;
 use nogood_store::NogoodStore;
 use propagation::{admit, give};
+use search_fronts::Fronts;
 use std::alloc::Global;
 use std::marker::Model;
 use term_pool::TermPool;
@@ -71,6 +72,8 @@ pub struct Search {
     pub(crate) choices: Choices,
     pub(crate) nogoods: NogoodStore,
     pub(crate) trail: Trail,
+    /// Before which atoms, bodies and entries nothing is open.
+    pub(crate) fronts: Fronts,
     /// From which atom on the next look goes for one that no rule gives.
     pub(crate) tried: u32,
     closing: bool,
@@ -80,6 +83,7 @@ pub struct Search {
 impl Model for Search {
     ghost use Rattle.search_state.specs.Searching.{Searching, searching, Ties, fields};
     ghost use Rattle.lazy_grounder.specs.Grounders.{IsGrounderOf};
+    ghost use Rattle.search_fronts.specs.Fronts.{AreFronts};
     ghost use Rattle.core_rules.specs.contracts.rules.CoreTerm as term;
     ghost use Rattle.asp_meaning.specs.contracts.value.Value as value;
     ghost use Rattle.std.specs.Coded.{codes};
@@ -92,7 +96,8 @@ impl Model for Search {
         s.stage };
 
     ghost invariant = { λ s. Ties (fields s.core s.ground s.told s.memory s.risen s.joined s.choices s.nogoods s.trail)
-        × IsGrounderOf s.core s.ground.atoms.preds s.grounder };
+        × IsGrounderOf s.core s.ground.atoms.preds s.grounder
+        × AreFronts s.ground.atoms.atoms s.ground.instances s.trail.stack s.fronts };
 }
 
 impl Search {
@@ -121,6 +126,7 @@ impl Search {
             choices: Choices::new(alloc),
             nogoods: NogoodStore::new(alloc),
             trail: Trail::new(alloc),
+            fronts: Fronts::new(),
             tried: 0,
             closing: false,
             stage: Stage::Free,
@@ -143,7 +149,9 @@ impl Search {
     {
         // With the number of entries that were taken up comes that there are so many.
         let _ = self.trail.kept();
+        let from = self.trail.entries().len();
         give(&mut self.trail, atom, value, by);
+        self.fronts.take_up(&self.trail, from);
     }
 
     /// Decides that the body holds.
@@ -154,7 +162,11 @@ impl Search {
         ensures ids_fit { ids self.old < 2 ^ 32 }
     {
         take_all_up(&mut self.trail);
+        let from = self.trail.entries().len();
         self.trail.decide(body, true);
+        self.fronts.take_up(&self.trail, from);
+        self.fronts
+            .pass_settled(&self.ground.instances, &self.trail);
         self.tried = self.told.atoms;
         self.closing = false;
     }
@@ -167,7 +179,15 @@ impl Search {
         ensures ids_fit { ids self.old < 2 ^ 32 }
     {
         take_all_up(&mut self.trail);
+        let from = self.trail.entries().len();
         self.trail.close(atom);
+        self.fronts.take_up(&self.trail, from);
+        self.fronts
+            .pass_assigned(&self.ground.atoms, &self.trail, self.told.atoms);
+        self.fronts
+            .pass_not_must(&self.ground.atoms, &self.trail, self.told.atoms);
+        self.fronts
+            .pass_settled(&self.ground.instances, &self.trail);
         self.closing = true;
     }
 
@@ -178,6 +198,8 @@ impl Search {
     {
         // With the number of entries that were taken up comes that there are so many.
         let _ = self.trail.kept();
+        self.fronts
+            .take_back(&self.ground.atoms, &self.trail, level);
         self.trail.backjump(level);
         let left = self.trail.entries().len();
         self.risen = self.risen.min(left);

@@ -1,5 +1,5 @@
 use Rattle.alpha.proofs.Clauses.{reported, output, output_appends, events_appended, unnoted, caused, refused_words}
-use Rattle.alpha.proofs.Accepted.{too_long_comes, refusal_comes, accepted_ends, shown_are_answer_sets, shown_once, finished_is_complete, journal_is_legal, budget_is_spent, overflow_in_rule, term_too_large, lines_are_shown_events}
+use Rattle.alpha.proofs.Accepted.{too_long_comes, refusal_comes, accepted_ends, shown_are_answer_sets, shown_once, finished_is_complete, finished_has_ended, limit_is_reached, journal_is_legal, budget_is_spent, overflow_in_rule, term_too_large, lines_are_shown_events}
 use Rattle.alpha.proofs.Appended.{name_kept}
 use Rattle.alpha.proofs.run.run.Goals as goal
 
@@ -14,6 +14,14 @@ returns-clause-shown_once g c = λ P b a is.
 pub returns-clause-finished_is_complete : goal.returns-clause-finished_is_complete
 returns-clause-finished_is_complete g c = λ P b printed a is e.
     finished_is_complete _ _ _ _ _ P a c.report.result (reported _ _ _ _ _ _ _ c.work-status.ensures.outcome c.report.ensures.same) b is printed e
+
+pub returns-clause-finished_has_ended : goal.returns-clause-finished_has_ended
+returns-clause-finished_has_ended g c = λ P E printed a noted e.
+    finished_has_ended _ _ _ _ _ P a c.report.result (reported _ _ _ _ _ _ _ c.work-status.ensures.outcome c.report.ensures.same) E noted printed e
+
+pub returns-clause-limit_is_reached : goal.returns-clause-limit_is_reached
+returns-clause-limit_is_reached g c = λ P E a noted all write.
+    limit_is_reached _ _ _ _ _ P a c.report.result (reported _ _ _ _ _ _ _ c.work-status.ensures.outcome c.report.ensures.same) E noted all write
 
 pub returns-clause-journal_is_legal : goal.returns-clause-journal_is_legal
 returns-clause-journal_is_legal g c = λ P E a noted.

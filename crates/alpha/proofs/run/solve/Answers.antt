@@ -1,7 +1,7 @@
 use Rattle.std.proofs.Common.{◌∙◌, inl, ap}
 use Rattle.alpha.specs.Texts.{last_line_of}
 use Rattle.alpha.specs.Outcomes.{ended, cut_off, untraced, memory}
-use Rattle.alpha.proofs.Solving.{with_last_line, with_front, without_last_line, some_lines, its_lines, cut_line, rose_later}
+use Rattle.alpha.proofs.Solving.{with_last_line, with_front, without_last_line, some_lines, fewer_lines, its_lines, cut_line, rose_later}
 use Rattle.alpha.proofs.run.solve.Goals as goal
 
 pub returns-in-Err-WriteFault-clause-searched : goal.returns-in-Err-WriteFault-clause-searched
@@ -12,7 +12,7 @@ returns-in-Err-WriteFault-clause-searched g c =
 pub returns-in-Err-TraceFault-clause-searched : goal.returns-in-Err-TraceFault-clause-searched
 returns-in-Err-TraceFault-clause-searched g c =
     let failed = rw c.in-Err-TraceFault.field-0-is at c.in-Err-TraceFault.ensures.answer in
-    λ P of. untraced failed.0 (some_lines P _ of _ _ _ failed.1)
+    λ P of. untraced failed.0 (fewer_lines P _ of _ c.default_settings.ensures _ _ failed.1)
 
 pub returns-in-Err-OutOfMemory-clause-searched : goal.returns-in-Err-OutOfMemory-clause-searched
 returns-in-Err-OutOfMemory-clause-searched g c =

@@ -5,6 +5,8 @@ use Rattle.trail.specs.Assigning.{Trailed}
 use Rattle.nogood_store.specs.Matching.{Matches}
 use Rattle.nogood_store.proofs.Matched.{jumped_keeps}
 use Rattle.search_state.specs.Searching.{Searching}
+use Rattle.search_fronts.specs.Fronts.{AreFronts}
+use Rattle.search_state.proofs.Looking.{have_bodies}
 use Rattle.search_state.proofs.Moving.{jumped_atoms, jumped_stack, ties_back}
 use Rattle.search_state.proofs.search.Search.back.Goals as goal
 
@@ -22,4 +24,7 @@ invariant_of-self c =
           (subst (λ (t : Trailed). Matches c.self.inside.nogoods t) (sym c.backjump.ensures)
           (jumped_keeps c.self.inside.nogoods c.self.inside.trail c.self.invariant.0.matches (omega (arith, kept, within)) c.args.level)),
       c.self.invariant.1,
+      subst (λ s. AreFronts c.self.inside.ground.atoms.atoms c.self.inside.ground.instances s c.take_back.new.self)
+          (sym (ap (λ (t : Trailed). t.stack) c.backjump.ensures ∙ jumped_stack c.self.inside.trail c.args.level low))
+          (c.take_back.ensures c.self.inside.ground.instances (have_bodies _ c.self.invariant.0) c.self.invariant.2),
     )

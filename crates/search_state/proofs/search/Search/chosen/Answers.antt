@@ -2,7 +2,8 @@ use Rattle.std.proofs.Common.{◌≡◌, ◌-◌, ◌++◌, ◌∷◌, [], arith
 use denote.Enum.Bare.{sameb}
 use Rattle.alpha_outside.specs.contracts.literal.Value.{the_type}
 use Rattle.search_values.specs.Values.{Value, True, MustBe, False, lit, is_up}
-use Rattle.search_state.proofs.Chosen.{entry_placed, chosen_step, chosen_skip}
+use Rattle.search_fronts.proofs.Walking.{entry_placed}
+use Rattle.search_state.proofs.Chosen.{chosen_step, chosen_skip}
 use Rattle.search_state.proofs.search.Search.chosen.Goals as goal
 
 -- the value isn't false just where the literal is positive

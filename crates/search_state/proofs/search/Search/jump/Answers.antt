@@ -1,5 +1,6 @@
 use Rattle.std.proofs.Common.{◌-◌, arith}
-use Rattle.search_state.proofs.Chosen.{entry_placed, jump_level, jump_stop, jump_skip}
+use Rattle.search_fronts.proofs.Walking.{entry_placed}
+use Rattle.search_state.proofs.Chosen.{jump_level, jump_stop, jump_skip}
 use Rattle.search_state.proofs.search.Search.jump.Goals as goal
 
 pub is_choice-requires-clause-there : goal.is_choice-requires-clause-there

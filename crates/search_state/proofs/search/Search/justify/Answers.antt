@@ -15,4 +15,5 @@ invariant_of-self-2 c = (
       (subst (λ lits. LitsAreBelow (ids c.args.self.now) lits) (sym (c.as_slice.ensures ∙ c.in_ok-lits.ensures))
       (justified_low c.args.self.now c.args.atom c.requires))),
   c.self.invariant.1,
+  c.self.invariant.2,
 )

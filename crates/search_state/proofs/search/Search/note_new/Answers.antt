@@ -16,6 +16,7 @@ invariant_of-self g c = (
       (λ i among. elim (c.note_ground.ensures.adds.there i among) [ inl old ↦ c.self.invariant.0.choices_there i old | inr new ↦ new ])
       c.note_ground.ensures.adds.placed c.note_ground.ensures.matches,
   c.self.invariant.1,
+  c.self.invariant.2,
 )
 
 pub returns-clause-notable : goal.returns-clause-notable

@@ -1,4 +1,5 @@
-use Rattle.std.proofs.Common.{◌<◌, ap, sym, subst, arith}
+use Rattle.std.proofs.Common.{◌<◌, ◌∷◌, [], length, ap, sym, subst, ◌∙◌, arith}
+use Rattle.std.proofs.lemmas.List.{length-reverse}
 use Rattle.trail.specs.Assigning.{Trailed, MayBecome}
 use Rattle.nogood_store.specs.Matching.{Matches}
 use Rattle.nogood_store.proofs.Matched.{given_keeps}
@@ -19,4 +20,7 @@ invariant_of-self c =
           (given_keeps c.self.inside.nogoods c.self.inside.trail c.self.invariant.0.matches
           (omega (arith, kept, within)) c.args.atom c.args.value c.args.by may)),
       c.self.invariant.1,
+      c.take_up.ensures c.self.inside.ground.atoms.atoms c.self.inside.ground.instances (_ ∷ []) c.self.inside.trail.stack
+          (ap (λ (t : Trailed). t.stack) c.give.ensures)
+          (sym (ap length c.entries-from.ensures.value ∙ length-reverse c.self.inside.trail.stack)) c.self.invariant.2,
     )
