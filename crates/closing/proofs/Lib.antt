@@ -1,0 +1,4 @@
+pub mod BodyValues
+pub mod Values
+pub mod RoundLemmas
+pub mod FullLemmas

@@ -1,0 +1,2 @@
+pub mod Closable
+pub mod Closings
