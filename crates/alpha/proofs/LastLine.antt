@@ -156,6 +156,7 @@ status_is_other n status.Usage has = absurd has
 status_is_other n (status.Refused r) has = absurd has
 status_is_other n (status.TextTooLong name) has = absurd has
 status_is_other n (status.ReadFault name) has = absurd has
+status_is_other n (status.AfterRefused line) has = absurd has
 status_is_other n status.WriteFault has = absurd has
 status_is_other n status.TraceFault has = absurd has
 status_is_other n status.OutOfMemory has = absurd has

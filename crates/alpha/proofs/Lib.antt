@@ -4,8 +4,10 @@ pub mod TextLemmas
 pub mod Appended
 pub mod LastLine
 pub mod Messages
-pub mod Solving
-pub mod Treating
+pub mod SolveLemmas
+pub mod LaterFaults
+pub mod Books
+pub mod ReadLemmas
 pub mod Shown
 pub mod Noted
 pub mod Clauses

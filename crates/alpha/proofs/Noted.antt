@@ -1,11 +1,10 @@
 -- What the events of a run tell, from the journal of its search.
-use Rattle.std.proofs.Common.{◌≡◌, inl, inr, refl, sym, ap, subst, ◌∙◌, ℕ, ℤ, ◌+◌, arith, List, [], ◌∷◌, ◌++◌}
+use Rattle.std.proofs.Common.{◌≡◌, inl, inr, refl, sym, ap, subst, ◌∙◌, ℕ, ℤ, ◌+◌, arith, List, [], ◌∷◌, ◌++◌, Option}
 use Rattle.std.specs.Prelude.{reverse}
 use Rattle.std.proofs.lemmas.List.{reverse-append}
 use Rattle.alpha_outside.specs.declared.kinds.ArithOp.{ArithOp}
 use Rattle.alpha_outside.specs.declared.event.Event as outside
 use Rattle.alpha_outside.specs.declared.event.Event.TheVariants as say
-use Rattle.asp_syntax.specs.declared.tree.Statement.{Statement}
 use Rattle.search_theory.specs.States.{State}
 use Rattle.search_theory.specs.Journals.{Says, SaysAll, replay}
 use Rattle.search_theory.specs.Events.{happens}
@@ -14,9 +13,9 @@ use Rattle.core_meaning.specs.Atoms.{GroundAtom}
 use Rattle.search_rules.specs.Tests.{Maker}
 use Rattle.search_rules.specs.Rules.{Numbers, Reached}
 use Rattle.search_journals.specs.Search.{TraceChange, Journaled}
-use Rattle.search_journals.specs.Journals.{Step, Tells, strikes, makes, AreLinesOf}
-use Rattle.alpha.specs.Journals.{core_for, rules_for, shown_sets, struck_events, made_events, used_by, used_in, AreShownLines, HasSpent, AreSpent, HasEnded, AreEnded, HasOverflow, AreOverflow, HasTooLarge, AreTooLarge}
-use Rattle.alpha.specs.Promises.{IsNoted}
+use Rattle.search_journals.specs.Journals.{Step, strikes, makes, AreLinesOf}
+use Rattle.alpha.specs.Journals.{Task, core_for, rules_for, state_after, WasTold, IsSaid, shown_sets, struck_events, made_events, used_by, used_in, AreShownLines, HasSpent, AreSpent, HasEnded, AreEnded, HasOverflow, AreOverflow, HasTooLarge, AreTooLarge}
+use Rattle.alpha.specs.Promises.{IsNoted, begun}
 use Rattle.alpha.specs.declared.status.BudgetKind.{BudgetKind}
 use Rattle.alpha.specs.declared.status.BudgetKind.TheVariants as budget
 use Rattle.alpha.proofs.Appended.{noted_is, adds_nothing}
@@ -223,62 +222,66 @@ module _ (rules : Rules Numbers GroundAtom Maker) where
 
 -- ---- of a run
 
-module _ (P : List Statement) (trace : TraceChange) where
-  -- where nothing was noted
-  pub nothing_journaled : trace.told' ≡ trace.told → Journaled (core_for P) trace []
-  nothing_journaled kept = record {
-    journal = [];
-    legal = tt;
-    tells = ([], adds_nothing trace.told trace.told' kept, refl);
-    shown = tt;
+-- where nothing was noted
+pub nothing_journaled : (k : Task) (trace : TraceChange) → trace.told' ≡ trace.told → Journaled (core_for k.program) k.listed trace []
+nothing_journaled k trace kept = record {
+  journal = [];
+  legal = tt;
+  tells = ([], adds_nothing trace.told trace.told' kept, refl);
+  shown = tt;
+}
+
+-- where nothing was noted the events are none
+pub nothing_said : (k : Task) (E : List outside.Event) → E ≡ [] → AreShownLines k E []
+nothing_said k E none = record {
+  journal = [];
+  said = record { legal = tt; says = none };
+  lines_are = subst (λ sets. AreLinesOf (state_after k []) sets []) (sym (ap shown_sets none)) tt;
+}
+
+-- what a journal that was told says
+pub told_by : (k : Task) (trace : TraceChange) (lines : List (List ℕ)) (j : Journaled (core_for k.program) k.listed trace lines)
+    → WasTold k trace j.journal
+told_by k trace lines j = record { legal = j.legal; tells = j.tells }
+
+module _ (k : Task) (name : Option (List ℕ)) (trace : TraceChange) (E : List outside.Event) (is : IsNoted trace.told trace.told' E) where
+  -- the trace from where its file was named on
+  abbrev from_name : TraceChange
+  from_name = record trace { told = begun name trace.told }
+
+  -- the events say the journal that was told
+  said : (journal : List Step) → WasTold k from_name journal → IsSaid k E journal
+  said journal w = record {
+    legal = w.legal;
+    says = subst (λ events. SaysAll (rules_for k.program) events journal)
+        (noted_is trace.told trace.told' name E w.tells.0 is w.tells.1) w.tells.2;
   }
 
-  module _ (E : List outside.Event) (is : IsNoted trace.told trace.told' E) where
-    -- the events say the journal that was told
-    said : (journal : List Step) → Tells (core_for P) trace.told trace.told' journal → SaysAll (rules_for P) E journal
-    said journal tells = subst (λ events. SaysAll (rules_for P) events journal) (noted_is trace.told trace.told' E tells.0 is tells.1) tells.2
+  pub shown_lines : (lines : List (List ℕ)) → Journaled (core_for k.program) k.listed from_name lines → AreShownLines k E lines
+  shown_lines lines j =
+      let says = said j.journal (told_by k from_name lines j) in
+      record {
+        journal = j.journal;
+        said = says;
+        lines_are = subst (λ sets. AreLinesOf (state_after k j.journal) sets lines)
+            (sym (shown_is (rules_for k.program) E j.journal says.says)) j.shown;
+      }
 
-    pub shown_lines : (lines : List (List ℕ)) → Journaled (core_for P) trace lines → AreShownLines P E lines
-    shown_lines lines j =
-        let says = said j.journal j.tells in
-        record {
-          journal = j.journal;
-          legal = j.legal;
-          says = says;
-          lines_are = subst (λ sets. AreLinesOf (replay (rules_for P) j.journal) sets lines) (sym (shown_is (rules_for P) E j.journal says)) j.shown;
-        }
+  pub spent : (kind : BudgetKind) (number : ℕ) → HasSpent k from_name kind number → AreSpent k E kind number
+  spent kind number h =
+      let says = said h.journal h.told in
+      record {
+        journal = h.journal;
+        said = says;
+        count = used_is (rules_for k.program) kind E h.journal says.says ∙ h.used;
+        one_more = h.one_more;
+      }
 
-    pub spent : (kind : BudgetKind) (number : ℕ) → HasSpent P trace kind number → AreSpent P E kind number
-    spent kind number h =
-        let says = said h.journal h.tells in
-        record {
-          journal = h.journal;
-          legal = h.legal;
-          says = says;
-          count = used_is (rules_for P) kind E h.journal says ∙ h.used;
-          one_more = h.one_more;
-        }
+  pub has_ended : HasEnded k from_name → AreEnded k E
+  has_ended h = record { journal = h.journal; said = said h.journal h.told; ended = h.ended }
 
-    pub has_ended : HasEnded P trace → AreEnded P E
-    has_ended h = record {
-      journal = h.journal;
-      legal = h.legal;
-      says = said h.journal h.tells;
-      ended = h.ended;
-    }
+  pub too_large : (line size : ℕ) → HasTooLarge k from_name line size → AreTooLarge k E line size
+  too_large line size h = record { journal = h.journal; said = said h.journal h.told; too_large = h.too_large }
 
-    pub too_large : (line size : ℕ) → HasTooLarge P trace line size → AreTooLarge P E line size
-    too_large line size h = record {
-      journal = h.journal;
-      legal = h.legal;
-      says = said h.journal h.tells;
-      too_large = h.too_large;
-    }
-
-    pub overflow : (line : ℕ) (op : ArithOp) (left right : ℤ) → HasOverflow P trace line op left right → AreOverflow P E line op left right
-    overflow line op left right h = record {
-      journal = h.journal;
-      legal = h.legal;
-      says = said h.journal h.tells;
-      overflow = h.overflow;
-    }
+  pub overflow : (line : ℕ) (op : ArithOp) (left right : ℤ) → HasOverflow k from_name line op left right → AreOverflow k E line op left right
+  overflow line op left right h = record { journal = h.journal; said = said h.journal h.told; overflow = h.overflow }

@@ -2,8 +2,7 @@
 use Rattle.std.proofs.Common.{◌≡◌, ◌⊎◌, inl, inr, refl, sym, ap, subst, ◌∙◌, ℕ, List, [], ◌∷◌, ◌++◌, length, take, append-nil}
 use Rattle.lists.specs.Lists.{Each, HasNoRepeats, concat}
 use Rattle.lists.proofs.ListLemmas.{Each-map}
-use Rattle.asp_syntax.specs.declared.tree.Statement.{Statement}
-use Rattle.asp_meaning.specs.Output.{set_lines, IsAnswerSetLine, IsBraceLine, AreAnswerSetLines, HaveAll}
+use Rattle.asp_meaning.specs.Output.{set_lines, IsBraceLine}
 use Rattle.asp_meaning.proofs.LineLemmas.{IsOtherLine, set_lines-concat, set_lines-take, set_lines-other}
 use Rattle.lists.proofs.ListLemmas.{Each-append, ∈-append_cases}
 use Rattle.lists.specs.Lists.{◌∈◌}
@@ -11,9 +10,9 @@ use Rattle.search_journals.specs.Search.{SinkChange, TraceChange, Journaled}
 use Rattle.alpha.specs.declared.status.Status.{Status}
 use Rattle.alpha.specs.declared.status.Status.TheVariants as status
 use Rattle.alpha.specs.Texts.{last_line_of}
-use Rattle.alpha.specs.Promises.{IsAppended, IsLineOfSet, IsSetLines, IsWholeOutput, IsCutOutput, HasPrinted, IsLastLine, OutputIs}
-use Rattle.alpha.specs.Journals.{core_for}
-use Rattle.alpha.specs.Outcomes.{WroteAll, Wrote, WroteOneMore, WroteFewer, IsNext, WroteFront}
+use Rattle.alpha.specs.Promises.{IsNewLine, HaveAllOthers, IsAppended, IsLineOfSet, IsSetLines, IsWholeOutput, IsCutOutput, HasPrinted, IsLastLine, OutputIs}
+use Rattle.alpha.specs.Journals.{Task, core_for}
+use Rattle.alpha.specs.Outcomes.{AreNewLines, WroteAll, Wrote, WroteOneMore, WroteFewer, IsNext, WroteFront}
 use Rattle.alpha.proofs.Appended.{appended_is}
 use Rattle.alpha.proofs.LastLine.{last_line_is_other}
 
@@ -43,60 +42,61 @@ once-push (y ∷ ys) x once new = (
 )
 
 -- what was written, whatever may be
-pub noted_alone : (P : List Statement) (sink : SinkChange) (trace : TraceChange) → WroteFewer P sink trace → Wrote P sink trace ⊎ WroteOneMore P sink trace
-noted_alone P sink trace (inl w) = inl w.0
-noted_alone P sink trace (inr w) = inr w.0
+pub noted_alone : (k : Task) (sink : SinkChange) (trace : TraceChange) → WroteFewer k sink trace → Wrote k sink trace ⊎ WroteOneMore k sink trace
+noted_alone k sink trace (inl w) = inl w.0
+noted_alone k sink trace (inr w) = inr w.0
 
 -- ---- how a run ended
 
 -- a run that ended by itself has printed what it says
-pub printed_all : (P : List Statement) (sink : SinkChange) (trace : TraceChange) (s : Status) (w : WroteAll P sink trace s) → HasPrinted (length w.lines) s
-printed_all P sink trace (status.Finished printed) w = w.ends.0
-printed_all P sink trace (status.LimitReached printed) w = w.ends.0
-printed_all P sink trace (status.BudgetSpent kind number printed) w = w.ends.0
-printed_all P sink trace (status.TermTooLarge line size printed) w = w.ends.0
-printed_all P sink trace (status.Overflow line op left right printed) w = w.ends.0
-printed_all P sink trace status.Usage w = absurd w.ends
-printed_all P sink trace (status.Refused r) w = absurd w.ends
-printed_all P sink trace (status.TextTooLong name) w = absurd w.ends
-printed_all P sink trace (status.ReadFault name) w = absurd w.ends
-printed_all P sink trace status.WriteFault w = absurd w.ends
-printed_all P sink trace status.TraceFault w = absurd w.ends
-printed_all P sink trace status.OutOfMemory w = absurd w.ends
+pub printed_all : (k : Task) (sink : SinkChange) (trace : TraceChange) (s : Status) (w : WroteAll k sink trace s) → HasPrinted (length w.lines) s
+printed_all k sink trace (status.Finished printed) w = w.ends.0
+printed_all k sink trace (status.LimitReached printed) w = w.ends.0
+printed_all k sink trace (status.BudgetSpent kind number printed) w = w.ends.0
+printed_all k sink trace (status.TermTooLarge line size printed) w = w.ends.0
+printed_all k sink trace (status.Overflow line op left right printed) w = w.ends.0
+printed_all k sink trace status.Usage w = absurd w.ends
+printed_all k sink trace (status.Refused r) w = absurd w.ends
+printed_all k sink trace (status.TextTooLong name) w = absurd w.ends
+printed_all k sink trace (status.ReadFault name) w = absurd w.ends
+printed_all k sink trace (status.AfterRefused line) w = absurd w.ends
+printed_all k sink trace status.WriteFault w = absurd w.ends
+printed_all k sink trace status.TraceFault w = absurd w.ends
+printed_all k sink trace status.OutOfMemory w = absurd w.ends
 
 -- its last line is no set line
-pub last_is_other : (P : List Statement) (sink : SinkChange) (trace : TraceChange) (s : Status) (w : WroteAll P sink trace s) → IsOtherLine (last_line_of s)
-last_is_other P sink trace s w = last_line_is_other (length w.lines) (last_line_of s) (s, printed_all P sink trace s w, refl)
+pub last_is_other : (k : Task) (sink : SinkChange) (trace : TraceChange) (s : Status) (w : WroteAll k sink trace s) → IsOtherLine (last_line_of s)
+last_is_other k sink trace s w = last_line_is_other (length w.lines) (last_line_of s) (s, printed_all k sink trace s w, refl)
 
 -- ---- the set lines
 
 -- lines of answer sets, of which the journal tells all or all but the last
-pub record Shows (P : List Statement) (trace : TraceChange) (b : List ℕ) : Type 0 where
+pub record Shows (k : Task) (trace : TraceChange) (b : List ℕ) : Type 0 where
   pub noted : List (List ℕ)
   pub more : List (List ℕ)
   pub few : (more ≡ []) ⊎ ((line : List ℕ) × (more ≡ line ∷ []))
   pub are : set_lines b ≡ noted ++ more
-  pub sets : AreAnswerSetLines P (noted ++ more)
-  pub journaled : Journaled (core_for P) trace noted
+  pub sets : AreNewLines k (noted ++ more)
+  pub journaled : Journaled (core_for k.program) k.listed trace noted
 
-module _ (P : List Statement) (sink : SinkChange) (trace : TraceChange) (b : List ℕ) (is : IsAppended sink.held sink.held' b) where
+module _ (k : Task) (sink : SinkChange) (trace : TraceChange) (b : List ℕ) (is : IsAppended sink.held sink.held' b) where
   -- the set lines are just those of the journal
-  pub all_lines : (s : Status) (w : WroteAll P sink trace s) → set_lines b ≡ w.lines
+  pub all_lines : (s : Status) (w : WroteAll k sink trace s) → set_lines b ≡ w.lines
   all_lines s w =
       ap set_lines (appended_is sink.held sink.held' b (concat w.lines ++ last_line_of s) is w.bytes)
-      ∙ before_whole_other w.lines (last_line_of s) w.sets.whole (last_is_other P sink trace s w)
+      ∙ before_whole_other w.lines (last_line_of s) w.sets.whole (last_is_other k sink trace s w)
 
-  nothing_more : (lines : List (List ℕ)) → set_lines b ≡ lines → AreAnswerSetLines P lines → Journaled (core_for P) trace lines → Shows P trace b
+  nothing_more : (lines : List (List ℕ)) → set_lines b ≡ lines → AreNewLines k lines → Journaled (core_for k.program) k.listed trace lines → Shows k trace b
   nothing_more lines are sets journaled = record {
     noted = lines;
     more = [];
     few = inl refl;
     are = are ∙ sym (append-nil lines);
-    sets = subst (AreAnswerSetLines P) (sym (append-nil lines)) sets;
+    sets = subst (AreNewLines k) (sym (append-nil lines)) sets;
     journaled = journaled;
   }
 
-  one_more : (lines : List (List ℕ)) (next : List ℕ) → set_lines b ≡ lines ++ next ∷ [] → AreAnswerSetLines P (lines ++ next ∷ []) → Journaled (core_for P) trace lines → Shows P trace b
+  one_more : (lines : List (List ℕ)) (next : List ℕ) → set_lines b ≡ lines ++ next ∷ [] → AreNewLines k (lines ++ next ∷ []) → Journaled (core_for k.program) k.listed trace lines → Shows k trace b
   one_more lines next are sets journaled = record {
     noted = lines;
     more = next ∷ [];
@@ -106,10 +106,10 @@ module _ (P : List Statement) (sink : SinkChange) (trace : TraceChange) (b : Lis
     journaled = journaled;
   }
 
-  pub shows-all : (s : Status) → WroteAll P sink trace s → Shows P trace b
+  pub shows-all : (s : Status) → WroteAll k sink trace s → Shows k trace b
   shows-all s w = nothing_more w.lines (all_lines s w) w.sets w.journaled
 
-  pub shows-lines : Wrote P sink trace ⊎ WroteOneMore P sink trace → Shows P trace b
+  pub shows-lines : Wrote k sink trace ⊎ WroteOneMore k sink trace → Shows k trace b
   shows-lines (inl w) =
       nothing_more w.lines (ap set_lines (appended_is sink.held sink.held' b (concat w.lines) is w.bytes) ∙ whole_set_lines w.lines w.sets.whole) w.sets w.journaled
   shows-lines (inr w) =
@@ -117,14 +117,14 @@ module _ (P : List Statement) (sink : SinkChange) (trace : TraceChange) (b : Lis
       (ap set_lines (appended_is sink.held sink.held' b (concat (w.lines ++ w.next ∷ [])) is w.bytes) ∙ whole_set_lines (w.lines ++ w.next ∷ []) w.sets.whole)
       w.sets w.journaled
 
-  with_next : (lines : List (List ℕ)) (next : List ℕ) → AreAnswerSetLines P lines → IsAnswerSetLine P next → IsBraceLine next → ¬ (next ∈ lines) → AreAnswerSetLines P (lines ++ next ∷ [])
+  with_next : (lines : List (List ℕ)) (next : List ℕ) → AreNewLines k lines → IsNewLine k next → IsBraceLine next → ¬ (next ∈ lines) → AreNewLines k (lines ++ next ∷ [])
   with_next lines next sets set whole new = record {
-    each = Each-append (IsAnswerSetLine P) lines (next ∷ []) sets.each (set, tt);
+    each = Each-append (IsNewLine k) lines (next ∷ []) sets.each (set, tt);
     once = once-push lines next sets.once new;
     whole = Each-append IsBraceLine lines (next ∷ []) sets.whole (whole, tt);
   }
 
-  shows-next : (lines : List (List ℕ)) (next : List ℕ) (cut : ℕ) → b ≡ concat lines ++ take cut next → AreAnswerSetLines P lines → Journaled (core_for P) trace lines → IsNext P lines next → Shows P trace b
+  shows-next : (lines : List (List ℕ)) (next : List ℕ) (cut : ℕ) → b ≡ concat lines ++ take cut next → AreNewLines k lines → Journaled (core_for k.program) k.listed trace lines → IsNext k lines next → Shows k trace b
   shows-next lines next cut e sets journaled (inr last) =
       nothing_more lines (ap set_lines e ∙ before_other lines next cut sets.whole (last_line_is_other (length lines) next last)) sets journaled
   shows-next lines next cut e sets journaled (inl set) = elim (set_lines-take cut next set.1) [
@@ -133,21 +133,21 @@ module _ (P : List Statement) (sink : SinkChange) (trace : TraceChange) (b : Lis
         one_more lines next (ap set_lines e ∙ set_lines-concat lines (take cut next) sets.whole ∙ ap (λ xs. lines ++ xs) whole) (with_next lines next sets set.0 set.1 set.2) journaled
   ]
 
-  pub shows-front : WroteFront P sink trace → Shows P trace b
+  pub shows-front : WroteFront k sink trace → Shows k trace b
   shows-front w = shows-next w.lines w.next w.cut (appended_is sink.held sink.held' b (concat w.lines ++ take w.cut w.next) is w.bytes) w.sets w.journaled w.next_is
 
-  pub have_all : (printed : ℕ) → WroteAll P sink trace (status.Finished printed) → HaveAll P (set_lines b)
-  have_all printed w = subst (HaveAll P) (sym (all_lines (status.Finished printed) w)) w.ends.2
+  pub have_all : (printed : ℕ) → WroteAll k sink trace (status.Finished printed) → HaveAllOthers k (set_lines b)
+  have_all printed w = subst (HaveAllOthers k) (sym (all_lines (status.Finished printed) w)) w.ends.2
 
   -- ---- byte for byte
 
-  set_of : (line : List ℕ) → IsAnswerSetLine P line → IsLineOfSet line
+  set_of : (line : List ℕ) → IsNewLine k line → IsLineOfSet line
   set_of line l = (l.set, l.answer_set.set, l.is)
 
-  sets_of : (lines : List (List ℕ)) → AreAnswerSetLines P lines → Each IsLineOfSet lines
-  sets_of lines sets = Each-map (IsAnswerSetLine P) IsLineOfSet set_of lines sets.each
+  sets_of : (lines : List (List ℕ)) → AreNewLines k lines → Each IsLineOfSet lines
+  sets_of lines sets = Each-map (IsNewLine k) IsLineOfSet set_of lines sets.each
 
-  whole_output : (s : Status) (printed : ℕ) (w : WroteAll P sink trace s) → printed ≡ length w.lines → IsWholeOutput s printed b
+  whole_output : (s : Status) (printed : ℕ) (w : WroteAll k sink trace s) → printed ≡ length w.lines → IsWholeOutput s printed b
   whole_output s printed w count = record {
     lines = w.lines;
     bytes = appended_is sink.held sink.held' b (concat w.lines ++ last_line_of s) is w.bytes;
@@ -155,7 +155,7 @@ module _ (P : List Statement) (sink : SinkChange) (trace : TraceChange) (b : Lis
     count = count;
   }
 
-  pub ended_output : (s : Status) → WroteAll P sink trace s → OutputIs sink.faults sink.faults' s b
+  pub ended_output : (s : Status) → WroteAll k sink trace s → OutputIs sink.faults sink.faults' s b
   ended_output (status.Finished printed) w = whole_output (status.Finished printed) printed w w.ends.0
   ended_output (status.LimitReached printed) w = whole_output (status.LimitReached printed) printed w w.ends.0
   ended_output (status.BudgetSpent kind number printed) w = whole_output (status.BudgetSpent kind number printed) printed w w.ends.0
@@ -165,15 +165,16 @@ module _ (P : List Statement) (sink : SinkChange) (trace : TraceChange) (b : Lis
   ended_output (status.Refused r) w = absurd w.ends
   ended_output (status.TextTooLong name) w = absurd w.ends
   ended_output (status.ReadFault name) w = absurd w.ends
+  ended_output (status.AfterRefused line) w = absurd w.ends
   ended_output status.WriteFault w = absurd w.ends
   ended_output status.TraceFault w = absurd w.ends
   ended_output status.OutOfMemory w = absurd w.ends
 
-  next_of : (lines : List (List ℕ)) (next : List ℕ) → IsNext P lines next → IsLineOfSet next ⊎ IsLastLine (length lines) next
+  next_of : (lines : List (List ℕ)) (next : List ℕ) → IsNext k lines next → IsLineOfSet next ⊎ IsLastLine (length lines) next
   next_of lines next (inl set) = inl (set_of next set.0)
   next_of lines next (inr last) = inr last
 
-  pub cut_output : WroteFront P sink trace → IsCutOutput b
+  pub cut_output : WroteFront k sink trace → IsCutOutput b
   cut_output w = record {
     lines = w.lines;
     next = w.next;
@@ -183,7 +184,7 @@ module _ (P : List Statement) (sink : SinkChange) (trace : TraceChange) (b : Lis
     next_is = next_of w.lines w.next w.next_is;
   }
 
-  pub lines_output : Wrote P sink trace ⊎ WroteOneMore P sink trace → IsSetLines b
+  pub lines_output : Wrote k sink trace ⊎ WroteOneMore k sink trace → IsSetLines b
   lines_output (inl w) =
       record { lines = w.lines; bytes = appended_is sink.held sink.held' b (concat w.lines) is w.bytes; sets = sets_of w.lines w.sets }
   lines_output (inr w) =

@@ -1,4 +1,3 @@
-pub mod Words
 pub mod Built
 pub mod TextAnswers
 pub mod Texts

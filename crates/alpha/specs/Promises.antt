@@ -1,95 +1,116 @@
 -- What the clauses of a run say.
-use Rattle.std.specs.Prelude.{◌≡◌, ◌⊎◌, ◌<◌, ◌≤◌, ◌+◌, ℕ, List, [], ◌∷◌, ◌++◌, length, take, Option, Some, None, IfSome}
-use Rattle.lists.specs.Lists.{Each, HasNoRepeats, concat}
+use Rattle.std.specs.Prelude.{◌≡◌, ◌⊎◌, ◌<◌, ◌≤◌, ◌+◌, ℕ, List, [], ◌++◌, length, take, option_map, Option, Some, None, IfSome}
+use Rattle.lists.specs.Lists.{◌∈◌, Each, HasNoRepeats, concat}
 use Rattle.alpha_outside.specs.declared.event.Event.{Event}
-use Rattle.alpha_outside.specs.Outside.{Rose, RoseBy, Journal}
+use Rattle.alpha_outside.specs.Outside.{Rose, RoseBy, FileIs, Journal, named}
+use Rattle.program_files.specs.Files.{Told, most_bytes, most_listed_bytes, IsJoinedText, MakesTooLong, IsLonger}
+use Rattle.command_line.specs.declared.request.Solve.{Solve}
+use Rattle.after_book.specs.Parts.{ended_lines, IsFine}
+use Rattle.after_book.specs.Listed.{IsFirstRefused}
 use Rattle.asp_syntax.specs.declared.tree.Statement.{Statement}
 use Rattle.asp_meaning.specs.Atoms.{Atom}
+use Rattle.asp_meaning.specs.Programs.{IsAnswerSet}
 use Rattle.asp_meaning.specs.Lines.{IsSetLine}
-use Rattle.search_journals.specs.Search.{SinkChange, TraceChange}
+use Rattle.search_journals.specs.Search.{SinkChange, TraceChange, IsAmong}
 use Rattle.alpha.specs.TextAnswers.{IsProgramText, IsRefusedText}
 use Rattle.alpha.specs.Texts.{last_line_of, message_of}
-use Rattle.alpha.specs.Journals.{HasSpent, HasEnded, HasOverflow, HasTooLarge}
-use Rattle.alpha.specs.declared.status.BudgetKind.{BudgetKind}
-use Rattle.alpha.specs.declared.status.BudgetKind.TheVariants as budget
+use Rattle.alpha.specs.Journals.{Task, most_of, HasSpent, HasEnded, HasOverflow, HasTooLarge}
 use Rattle.alpha.specs.declared.status.Refusal.{Refusal}
 use Rattle.alpha.specs.declared.status.Status.{Status}
 use Rattle.alpha.specs.declared.status.Status.TheVariants as status
 
 -- ---- what is asked, and of which files
 
--- the files, where a shelf tells them
-abbrev pub Told : Type 0
-Told = Option (List ℕ → Option (List ℕ))
+-- these are the bytes of the file of sets that aren't to be printed, each line of which may stand there; or none, where no such file is named
+abbrev pub IsListFile : (List ℕ → Option (List ℕ)) → Option (List ℕ) → List ℕ → Type 0
+IsListFile files None bytes = bytes ≡ []
+IsListFile files (Some name) bytes = (files name ≡ Some bytes) × (length bytes ≤ most_listed_bytes) × Each IsFine (ended_lines bytes)
 
--- the most bytes that the program's file may have
-abbrev pub most_bytes : ℕ
-most_bytes = 16777216
-
--- the most sets that are written
-abbrev pub most_sets : ℕ
-most_sets = 1000000000
-
--- the most nogoods that are noted as struck
-abbrev pub most_conflicts : ℕ
-most_conflicts = 1000000
-
--- the most instances that are made
-abbrev pub most_instances : ℕ
-most_instances = 10000000
-
--- the joined text: the file's bytes and a line feed
-abbrev pub joined_text : List ℕ → List ℕ
-joined_text bytes = bytes ++ (10 ∷ [])
-
--- the words ask for a file that is told, within its limit, and its joined text is so
-pub record IsRead (asks : Option (List ℕ)) (told : Told) (IsSo : List ℕ → Type 0) : Type 0 where
-  pub name : List ℕ
+-- the words ask for files that are told and within their limits: the program files have the program's joined text, and the file of sets lists
+-- those of the task
+pub record IsAccepted (asks : Option Solve) (told : Told) (k : Task) : Type 0 where
+  pub request : Solve
   pub files : List ℕ → Option (List ℕ)
-  pub bytes : List ℕ
-  pub asked : asks ≡ Some name
+  pub text : List ℕ
+  pub asked : asks ≡ Some request
   pub told_is : told ≡ Some files
-  pub file : files name ≡ Some bytes
-  pub within : length bytes ≤ most_bytes
-  pub text : IsSo (joined_text bytes)
+  pub joined : IsJoinedText files request.files text
+  pub program : IsProgramText text k.program
+  pub list : IsListFile files request.after k.bytes
+  pub settings : k.settings ≡ request.settings
 
--- the words and the file are accepted, and the program is P
-abbrev pub IsAccepted : Option (List ℕ) → Told → List Statement → Type 0
-IsAccepted asks told P = IsRead asks told (λ text. IsProgramText text P)
-
--- the words and the file are accepted, and the text is refused for this
-abbrev pub IsRefusedFile : Option (List ℕ) → Told → Refusal → Type 0
-IsRefusedFile asks told refusal = IsRead asks told (λ text. IsRefusedText text refusal)
-
--- the words ask for this file, which is told and longer than its limit
-pub record IsOverlong (asks : Option (List ℕ)) (told : Told) (name : List ℕ) : Type 0 where
+-- the words ask for program files that are told and within their limit, and their joined text is refused for this
+pub record IsRefusedFile (asks : Option Solve) (told : Told) (refusal : Refusal) : Type 0 where
+  pub request : Solve
   pub files : List ℕ → Option (List ℕ)
-  pub bytes : List ℕ
-  pub asked : asks ≡ Some name
+  pub text : List ℕ
+  pub asked : asks ≡ Some request
   pub told_is : told ≡ Some files
+  pub joined : IsJoinedText files request.files text
+  pub refused : IsRefusedText text refusal
+
+-- the words ask for program files that are told, of which this one makes them too long
+pub record IsOverlong (asks : Option Solve) (told : Told) (name : List ℕ) : Type 0 where
+  pub request : Solve
+  pub files : List ℕ → Option (List ℕ)
+  pub asked : asks ≡ Some request
+  pub told_is : told ≡ Some files
+  pub above : MakesTooLong files request.files name
+
+-- the words ask for program files that are told and are those of a program, and for this file of sets beside them, which is told
+pub record IsBesideList (asks : Option Solve) (told : Told) (name bytes : List ℕ) : Type 0 where
+  pub request : Solve
+  pub files : List ℕ → Option (List ℕ)
+  pub text : List ℕ
+  pub program : List Statement
+  pub asked : asks ≡ Some request
+  pub told_is : told ≡ Some files
+  pub joined : IsJoinedText files request.files text
+  pub program_is : IsProgramText text program
+  pub after : request.after ≡ Some name
   pub file : files name ≡ Some bytes
-  pub above : most_bytes < length bytes
 
--- where the files are told, the file is there, within its limit, and its joined text is so
-abbrev pub IsTextOf : Told → List ℕ → (List ℕ → Type 0) → Type 0
-IsTextOf told name IsSo = IfSome told (λ files. (bytes : List ℕ) × (files name ≡ Some bytes) × (length bytes ≤ most_bytes) × IsSo (joined_text bytes))
+-- such a file is too long
+abbrev pub IsOverlongList : Option Solve → Told → List ℕ → Type 0
+IsOverlongList asks told name = (bytes : List ℕ) × IsBesideList asks told name bytes × (most_listed_bytes < length bytes)
 
--- the program of the file is P
-abbrev pub IsProgramOf : Told → List ℕ → List Statement → Type 0
-IsProgramOf told name P = IsTextOf told name (λ text. IsProgramText text P)
+-- or, within its limit, it is refused for this line
+abbrev pub IsRefusedList : Option Solve → Told → ℕ → Type 0
+IsRefusedList asks told line =
+    (name : List ℕ) × (bytes : List ℕ) × IsBesideList asks told name bytes × (length bytes ≤ most_listed_bytes) × IsFirstRefused bytes line
 
--- the text of the file is refused for this
-abbrev pub IsRefusedOf : Told → List ℕ → Refusal → Type 0
-IsRefusedOf told name refusal = IsTextOf told name (λ text. IsRefusedText text refusal)
+-- where the files are told, this is the joined text of those of these names
+abbrev pub IsTextOf : Told → List (List ℕ) → List ℕ → Type 0
+IsTextOf told names text = IfSome told (λ files. IsJoinedText files names text)
 
--- where the files are told, the file is there, and longer than its limit
-abbrev pub IsTooLongOf : Told → List ℕ → Type 0
-IsTooLongOf told name = IfSome told (λ files. (bytes : List ℕ) × (files name ≡ Some bytes) × (most_bytes < length bytes))
+-- and it is that of P
+abbrev pub IsProgramOf : Told → List (List ℕ) → List Statement → Type 0
+IsProgramOf told names P = (text : List ℕ) × IsTextOf told names text × IsProgramText text P
 
--- the most of what a budget counts
-abbrev pub most_of : BudgetKind → ℕ
-most_of budget.Conflicts = most_conflicts
-most_of budget.Instances = most_instances
+-- where the files are told, these are the bytes of the file of sets
+abbrev pub IsListOf : Told → Option (List ℕ) → List ℕ → Type 0
+IsListOf told after bytes = IfSome told (λ files. IsListFile files after bytes)
+
+-- the words ask for this, and where the files are told, they are those of the task
+pub record IsTaskOf (asks : Option Solve) (told : Told) (k : Task) : Type 0 where
+  pub request : Solve
+  pub asked : asks ≡ Some request
+  pub program : IsProgramOf told request.files k.program
+  pub list : IsListOf told request.after k.bytes
+  pub settings : k.settings ≡ request.settings
+
+-- ---- what is printed
+
+-- the line of an answer set of the program that isn't listed
+pub record IsNewLine (k : Task) (line : List ℕ) : Type 0 where
+  pub set : List Atom
+  pub answer_set : IsAnswerSet k.program set
+  pub unlisted : ¬ IsAmong k.listed set
+  pub is : IsSetLine set line
+
+-- every answer set is listed, or has its line among these
+abbrev pub HaveAllOthers : Task → List (List ℕ) → Type 0
+HaveAllOthers k lines = (I : List Atom) → IsAnswerSet k.program I → IsAmong k.listed I ⊎ ((line : List ℕ) × (line ∈ lines) × IsSetLine I line)
 
 -- ---- what is written
 
@@ -154,6 +175,7 @@ OutputIs faults faults' status.Usage b = b ≡ []
 OutputIs faults faults' (status.Refused r) b = b ≡ []
 OutputIs faults faults' (status.TextTooLong name) b = b ≡ []
 OutputIs faults faults' (status.ReadFault name) b = b ≡ []
+OutputIs faults faults' (status.AfterRefused line) b = b ≡ []
 
 -- a front of these bytes, perhaps empty or whole
 abbrev pub IsFront : List ℕ → List ℕ → Type 0
@@ -166,17 +188,43 @@ MessageIs faults faults' s m = (m ≡ message_of s) ⊎ (Rose faults faults' × 
 
 -- ---- what is noted
 
--- the trace tells its events, and these were appended; its file's name is what it was
+-- what a trace tells after the file of this name was named to it, if one was
+abbrev pub begun : Option (List ℕ) → Option Journal → Option Journal
+begun None told = told
+begun (Some name) told = option_map (named name) told
+
+-- the file that the words name for the journal
+abbrev pub trace_name : Option Solve → Option (List ℕ)
+trace_name None = None
+trace_name (Some request) = request.trace
+
+-- the trace tells its events, and these were appended
 abbrev pub IsNoted : Option Journal → Option Journal → List Event → Type 0
-IsNoted told told' E = (before : Journal) × (told ≡ Some before) × (told' ≡ Some (record before { events = before.events ++ E }))
+IsNoted told told' E = (before : Journal) × (now : Journal) × (told ≡ Some before) × (told' ≡ Some now) × (now.events ≡ before.events ++ E)
 
 -- where the trace tells its events, it goes on to tell them, and all that became of them is that some were appended, or none
 abbrev pub OnlyNotes : Option Journal → Option Journal → Type 0
 OnlyNotes told told' = IfSome told (λ _. (E : List Event) × IsNoted told told' E)
 
+-- where the trace tells the name of its file, it is this one
+abbrev pub NameIs : List ℕ → Option Journal → Type 0
+NameIs name told = IfSome told (λ now. now.name ≡ Some name)
+
 -- where the trace tells the name of its file, it is what it was
 abbrev pub NameIsKept : Option Journal → Option Journal → Type 0
 NameIsKept told told' = IfSome told (λ before. IfSome told' (λ now. now.name ≡ before.name))
+
+-- the name that the trace tells after a run with this status: that of the file that the words name, where a search ended by itself or writing
+-- failed; else it may also be what it was. Where the words name none, it is what it was
+abbrev pub TraceNameIs : Option (List ℕ) → Option Journal → Option Journal → Status → Type 0
+TraceNameIs None told told' s = NameIsKept told told'
+TraceNameIs (Some name) told told' (status.Finished printed) = NameIs name told'
+TraceNameIs (Some name) told told' (status.LimitReached printed) = NameIs name told'
+TraceNameIs (Some name) told told' (status.BudgetSpent kind number printed) = NameIs name told'
+TraceNameIs (Some name) told told' (status.Overflow line op left right printed) = NameIs name told'
+TraceNameIs (Some name) told told' (status.TermTooLarge line size printed) = NameIs name told'
+TraceNameIs (Some name) told told' status.WriteFault = NameIs name told'
+TraceNameIs (Some name) told told' s = NameIsKept told told' ⊎ NameIs name told'
 
 -- the status of a run that searched nothing
 abbrev pub IsUnsearched : Status → Type 0
@@ -184,6 +232,7 @@ IsUnsearched status.Usage = Unit {0}
 IsUnsearched (status.Refused r) = Unit {0}
 IsUnsearched (status.TextTooLong name) = Unit {0}
 IsUnsearched (status.ReadFault name) = Unit {0}
+IsUnsearched (status.AfterRefused line) = Unit {0}
 IsUnsearched _ = ⊥
 
 -- ---- which status comes
@@ -215,27 +264,38 @@ pub record Counts : Type 0 where
   pub taken : ℕ
   pub taken' : ℕ
 
--- the words ask for a file, and where the files are told, it is that of some program
-abbrev pub IsOfProgram : Option (List ℕ) → Told → Type 0
-IsOfProgram asks told = (name : List ℕ) × (asks ≡ Some name) × ((P : List Statement) × IsProgramOf told name P)
+-- the words ask for program files, and where the files are told, they are those of some program
+abbrev pub IsOfProgram : Option Solve → Told → Type 0
+IsOfProgram asks told = (request : Solve) × (asks ≡ Some request) × ((P : List Statement) × IsProgramOf told request.files P)
+
+-- the task of a search, and the trace from where its file was named on
+abbrev pub IsSearched : Option Solve → Told → TraceChange → (Task → TraceChange → Type 0) → Type 0
+IsSearched asks told trace IsSo = (k : Task) × IsTaskOf asks told k × IsSo k (record trace { told = begun (trace_name asks) trace.told })
 
 -- Each status but want of memory comes only by its cause: for the words, the told files, and the shelf, the output's sink and the trace
 -- before and after the run. A search that ends by itself reaches the limit exactly where it wrote as many sets.
-abbrev pub IsCaused : Option (List ℕ) → Told → Counts → SinkChange → TraceChange → Status → Type 0
+abbrev pub IsCaused : Option Solve → Told → Counts → SinkChange → TraceChange → Status → Type 0
 IsCaused asks told shelf sink trace (status.Finished printed) =
-    (printed < most_sets) × ((name : List ℕ) × (asks ≡ Some name) × ((P : List Statement) × IsProgramOf told name P × HasEnded P trace))
-IsCaused asks told shelf sink trace (status.LimitReached printed) = (printed ≡ most_sets) × IsOfProgram asks told
+    IsSearched asks told trace (λ k t. (printed < k.settings.limit) × HasEnded k t)
+IsCaused asks told shelf sink trace (status.LimitReached printed) = IsSearched asks told trace (λ k t. printed ≡ k.settings.limit)
 IsCaused asks told shelf sink trace (status.BudgetSpent kind number printed) =
-    (printed < most_sets) × (number ≡ most_of kind) × ((name : List ℕ) × (asks ≡ Some name) × ((P : List Statement) × IsProgramOf told name P × HasSpent P trace kind number))
+    IsSearched asks told trace (λ k t. (printed < k.settings.limit) × (number ≡ most_of kind k.settings) × HasSpent k t kind number)
 IsCaused asks told shelf sink trace (status.Overflow line op left right printed) =
-    (printed < most_sets) × ((name : List ℕ) × (asks ≡ Some name) × ((P : List Statement) × IsProgramOf told name P × HasOverflow P trace line op left right))
+    IsSearched asks told trace (λ k t. (printed < k.settings.limit) × HasOverflow k t line op left right)
 IsCaused asks told shelf sink trace (status.TermTooLarge line size printed) =
-    (printed < most_sets) × ((name : List ℕ) × (asks ≡ Some name) × ((P : List Statement) × IsProgramOf told name P × HasTooLarge P trace line size))
+    IsSearched asks told trace (λ k t. (printed < k.settings.limit) × HasTooLarge k t line size)
 IsCaused asks told shelf sink trace status.Usage = asks ≡ None
-IsCaused asks told shelf sink trace (status.Refused refusal) = (name : List ℕ) × (asks ≡ Some name) × IsRefusedOf told name refusal
-IsCaused asks told shelf sink trace (status.TextTooLong long) =
-    (asks ≡ Some long) × RoseBy (most_bytes + 1) shelf.taken shelf.taken' × IsTooLongOf told long
-IsCaused asks told shelf sink trace (status.ReadFault name) = (asks ≡ Some name) × Rose shelf.faults shelf.faults'
+IsCaused asks told shelf sink trace (status.Refused refusal) =
+    (request : Solve) × (asks ≡ Some request) × ((text : List ℕ) × IsTextOf told request.files text × IsRefusedText text refusal)
+IsCaused asks told shelf sink trace (status.AfterRefused line) =
+    (request : Solve) × (asks ≡ Some request) × ((P : List Statement) × IsProgramOf told request.files P)
+    × ((name : List ℕ) × (bytes : List ℕ) × (request.after ≡ Some name) × FileIs told name bytes × IsFirstRefused bytes line)
+IsCaused asks told shelf sink trace (status.TextTooLong long) = (request : Solve) × (asks ≡ Some request)
+    × (((long ∈ request.files) × RoseBy (most_bytes + 1) shelf.taken shelf.taken' × IfSome told (λ files. MakesTooLong files request.files long))
+    ⊎ ((request.after ≡ Some long) × RoseBy (most_listed_bytes + 1) shelf.taken shelf.taken' × IsOfProgram asks told
+    × IfSome told (λ files. IsLonger files most_listed_bytes long)))
+IsCaused asks told shelf sink trace (status.ReadFault name) = (request : Solve) × (asks ≡ Some request)
+    × ((name ∈ request.files) ⊎ (request.after ≡ Some name)) × Rose shelf.faults shelf.faults'
 IsCaused asks told shelf sink trace status.WriteFault = Rose sink.faults sink.faults' × IsOfProgram asks told
 IsCaused asks told shelf sink trace status.TraceFault = Rose trace.faults trace.faults' × IsOfProgram asks told
 IsCaused asks told shelf sink trace status.OutOfMemory = Unit {0}

@@ -13,6 +13,7 @@ abbrev pub code_of : Status → ℕ
 code_of (status.Finished printed) = 0
 code_of status.Usage = 2
 code_of (status.Refused refusal) = 3
+code_of (status.AfterRefused line) = 4
 code_of (status.TextTooLong name) = 5
 code_of (status.ReadFault name) = 6
 code_of status.WriteFault = 7
@@ -78,6 +79,10 @@ refusal_message (refusal.NotYet line) = lined line (codes ": not built yet" ++ (
 refusal_message (refusal.Unsafe line variable) = lined line (around (codes ": variable ") variable (codes " is not bound"))
 refusal_message (refusal.AggregateRecursive line name) = lined line (around (codes ": the aggregate over ") name (codes " depends on its own head"))
 
+-- of a line of the file of sets
+abbrev pub after_message : ℕ → List ℕ
+after_message line = codes "alpha: line " ++ (decimal line ++ (codes " of the after file is not a set" ++ (10 ∷ [])))
+
 -- whether there is a message
 abbrev pub has_message : Status → Bool
 has_message (status.Finished printed) = false
@@ -97,6 +102,7 @@ message_of (status.Overflow line op left right printed) = []
 message_of status.Usage = codes "alpha: usage: alpha solve [--after FILE] [--limit N] [--conflicts N] [--instances N] [--trace FILE] FILE... or alpha sample SEED N" ++ (10 ∷ [])
 message_of (status.Refused r) = refusal_message r
 message_of (status.TextTooLong name) = around (codes "alpha: ") name (codes " is too long")
+message_of (status.AfterRefused line) = after_message line
 message_of (status.ReadFault name) = around (codes "alpha: cannot read ") name []
 message_of status.WriteFault = codes "alpha: cannot write" ++ (10 ∷ [])
 message_of status.TraceFault = codes "alpha: cannot write the trace" ++ (10 ∷ [])

@@ -1,168 +1,75 @@
 //! The whole of what the program does: words and files in, bytes, events and a status out.
 
-ghost use Rattle.std.specs.Prelude.{◌≡◌, ◌⊎◌, ◌≤◌, None, true, map, string_bytes, ℕ, ℤ, List, [], length};
+ghost use Rattle.std.specs.Prelude.{◌≡◌, ◌⊎◌, ◌≤◌, ◌<◌, None, Some, true, map, string_bytes, ℕ, ℤ, List, length, OnOk, IfErr};
 ghost use Rattle.alpha_outside.specs.declared.kinds.ArithOp.{ArithOp as Operation};
 ghost use Rattle.lists.specs.Lists.{Each, HasNoRepeats};
 ghost use Rattle.alpha_outside.specs.declared.event.Event.{Event};
 ghost use Rattle.alpha_outside.specs.Outside.{Rose};
-ghost use Rattle.asp_syntax.specs.declared.tree.Statement.{Statement as Rule};
-ghost use Rattle.asp_meaning.specs.Output.{set_lines, IsAnswerSetLine, HaveAll};
-ghost use Rattle.search_theory.specs.Journals.{IsLegal};
-ghost use Rattle.search_rules.specs.Stage.{IsSearchable};
-ghost use Rattle.alpha.specs.Words.{asked};
+ghost use Rattle.asp_meaning.specs.Output.{set_lines};
+ghost use Rattle.command_line.specs.Commands.{asked};
+ghost use Rattle.command_line.specs.Plain.{IsPlain};
+ghost use Rattle.command_line.specs.declared.request.Solve.{Solve as Asked};
 ghost use Rattle.alpha.specs.Texts.{has_message};
-ghost use Rattle.alpha.specs.Journals.{rules_for, shown_sets, LinesAre, AreSpent, AreEnded, AreOverflow, AreTooLarge};
-ghost use Rattle.alpha.specs.Promises.{IsAccepted, IsRefusedFile, IsOverlong, IsAppended, OnlyAppends, OutputIs, MessageIs, IsNoted, OnlyNotes, NameIsKept, most_sets};
-ghost use Rattle.alpha.specs.Promises.{IsUnsearched, IsEnded, IsRefusedWords, IsCaused, Gives, Counts, joined_text};
-ghost use Rattle.alpha.specs.Outcomes.{IsCoreOf, Searched, Treated, Outcome, defaults, status_of, IsReadFaultOf, IsTextTooLongOf};
+ghost use Rattle.alpha.specs.Journals.{Task, shown_sets, AreLegal, LinesAre, most_of, AreSpent, AreEnded, AreOverflow, AreTooLarge};
+ghost use Rattle.alpha.specs.Promises.{IsAccepted, IsRefusedFile, IsOverlong, IsOverlongList, IsRefusedList, IsNewLine, HaveAllOthers};
+ghost use Rattle.alpha.specs.Promises.{IsAppended, OnlyAppends, OutputIs, MessageIs, IsNoted, OnlyNotes, TraceNameIs, begun, trace_name};
+ghost use Rattle.alpha.specs.Promises.{IsUnsearched, IsEnded, IsRefusedWords, IsCaused, Gives, Counts};
+ghost use Rattle.alpha.specs.Outcomes.{Outcome, IsTraceStop};
 ghost use Rattle.alpha.specs.declared.status.Refusal.{Refusal as Reason};
 
-use crate::cores::core_for;
-use crate::status::{BudgetKind, Status, last_line, message};
-use crate::text::read_text;
-use crate::words::asked;
-use alpha_outside::{Name, ReadStop, Shelf, Sink, SinkStop, Trace};
-use core_rules::Core;
-use enumerator::{End, SearchFault, Settings, search};
+use crate::reading::{read_book, read_core};
+use crate::solving::solve;
+use crate::status::{BudgetKind, Status, message};
+use alpha_outside::{Shelf, Sink, SinkStop, Trace, TraceStop};
+use command_line::{Solve, WordsFault, read_words};
 use std::alloc::Global;
 
-/// The most bytes that the program's file may have.
-const MOST_BYTES: usize = 16_777_216;
-
-/// The most answer sets that are written.
-const MOST_SETS: u64 = 1_000_000_000;
-
-/// The most nogoods that are noted as struck.
-const MOST_CONFLICTS: u64 = 1_000_000;
-
-/// The most instances that are made.
-const MOST_INSTANCES: u64 = 10_000_000;
-
-// How far a search may go where no word says otherwise.
-fn default_settings() -> Settings
-    ensures { result ≡ defaults }
+// Names the file of the journal to the trace, where one is asked for; or gives the status with which the run ends.
+fn begin<T: Trace>(request: &Solve, trace: &mut T) -> Result<(), Status>
+    ensures later { T.faults trace.old ≤ T.faults trace.new }
+    ensures ok { OnOk result (T.journal trace.new ≡ begun request.now.trace (T.journal trace.old)) }
+    ensures kept { IfErr result (λ s. T.journal trace.new ≡ T.journal trace.old) }
+    ensures stop { IfErr result (IsTraceStop (T.faults trace.old) (T.faults trace.new)) }
 {
-    Settings {
-        limit: MOST_SETS,
-        conflicts: MOST_CONFLICTS,
-        instances: MOST_INSTANCES,
-    }
-}
-
-// The status of a search with these settings that ended by itself.
-fn ended(end: End) -> Status
-    ensures { result ≡ status_of end }
-{
-    match end {
-        End::Finished { printed } => Status::Finished { printed },
-        End::LimitReached { printed } => Status::LimitReached { printed },
-        End::Conflicts { printed } => Status::BudgetSpent {
-            budget: BudgetKind::Conflicts,
-            number: MOST_CONFLICTS,
-            printed,
-        },
-        End::Instances { printed } => Status::BudgetSpent {
-            budget: BudgetKind::Instances,
-            number: MOST_INSTANCES,
-            printed,
-        },
-        End::Overflow {
-            line,
-            op,
-            left,
-            right,
-            printed,
-        } => Status::Overflow {
-            line,
-            op,
-            left,
-            right,
-            printed,
-        },
-        End::TermTooLarge {
-            line,
-            size,
-            printed,
-        } => Status::TermTooLarge {
-            line,
-            size,
-            printed,
-        },
-    }
-}
-
-// Writes the answer sets and the last line, and notes the events.
-fn solve<O: Sink, T: Trace>(alloc: Global, core: Core, out: &mut O, trace: &mut T) -> Status
-    requires { IsSearchable core }
-    ensures out_later { O.faults out.old ≤ O.faults out.new }
-    ensures trace_later { T.faults trace.old ≤ T.faults trace.new }
-    ensures searched { (P : List Rule) → IsCoreOf P core → Searched P
-        (record { held = O.held out.old; held' = O.held out.new; faults = O.faults out.old; faults' = O.faults out.new })
-        (record { told = T.journal trace.old; told' = T.journal trace.new; faults = T.faults trace.old; faults' = T.faults trace.new })
-        result }
-{
-    let end = match search(alloc, core, default_settings(), out, trace) {
-        Ok(end) => end,
-        Err(SearchFault::WriteFault) => return Status::WriteFault,
-        Err(SearchFault::TraceFault) => return Status::TraceFault,
-        Err(SearchFault::OutOfMemory) => return Status::OutOfMemory,
+    let Some(name) = &request.trace else {
+        return Ok(());
     };
-    let status = ended(end);
-    let Ok(line) = last_line(alloc, &status) else {
-        return Status::OutOfMemory;
-    };
-    match out.write(line.as_slice()) {
-        Ok(()) => status,
-        Err(SinkStop::Failed) => Status::WriteFault,
-        Err(SinkStop::OutOfMemory) => Status::OutOfMemory,
+    match trace.begin(name.as_bytes()) {
+        Ok(()) => Ok(()),
+        Err(TraceStop::Failed) => Err(Status::TraceFault),
+        Err(TraceStop::OutOfMemory) => Err(Status::OutOfMemory),
     }
 }
 
-fn read_fault(alloc: Global, name: &[u8]) -> Status
-    ensures { IsReadFaultOf name.now result }
-{
-    match Name::from_bytes(alloc, name) {
-        Ok(name) => Status::ReadFault { name },
-        Err(_) => Status::OutOfMemory,
-    }
-}
-
-fn text_too_long(alloc: Global, name: &[u8]) -> Status
-    ensures { IsTextTooLongOf name.now result }
-{
-    match Name::from_bytes(alloc, name) {
-        Ok(name) => Status::TextTooLong { name },
-        Err(_) => Status::OutOfMemory,
-    }
-}
-
-// Solves the program of a file.
-fn solve_text<O: Sink, T: Trace>(
+// Does what is asked for, but for the message.
+fn answer<F: Shelf, O: Sink, T: Trace>(
     alloc: Global,
-    bytes: Vec<u8>,
+    request: &Solve,
+    shelf: &mut F,
     out: &mut O,
     trace: &mut T,
 ) -> Status
-    requires { length bytes.items ≤ 16777216 }
-    ensures out_later { O.faults out.old ≤ O.faults out.new }
-    ensures trace_later { T.faults trace.old ≤ T.faults trace.new }
-    ensures treated { Treated (joined_text bytes.items)
+    requires few { length request.now.files ≤ 65536 }
+    requires some { 0 < request.now.settings.limit }
+    ensures kept { F.files shelf.new ≡ F.files shelf.old }
+    ensures outcome { Outcome (F.files shelf.old)
+        (record { faults = F.faults shelf.old; faults' = F.faults shelf.new; taken = F.taken shelf.old; taken' = F.taken shelf.new })
         (record { held = O.held out.old; held' = O.held out.new; faults = O.faults out.old; faults' = O.faults out.new })
         (record { told = T.journal trace.old; told' = T.journal trace.new; faults = T.faults trace.old; faults' = T.faults trace.new })
-        result }
+        (Some request.now) result }
 {
-    let mut text = bytes;
-    if text.push(b'\n').is_err() {
-        return Status::OutOfMemory;
-    }
-    let program = match read_text(alloc, &text) {
-        Ok(program) => program,
+    let core = match read_core(alloc, request, shelf) {
+        Ok(core) => core,
         Err(status) => return status,
     };
-    match core_for(alloc, program) {
-        Ok(core) => solve(alloc, core, out, trace),
-        Err(status) => status,
+    let book = match read_book(alloc, request, shelf) {
+        Ok(book) => book,
+        Err(status) => return status,
+    };
+    if let Err(status) = begin(request, trace) {
+        return status;
     }
+    solve(alloc, core, request.settings, &book, out, trace)
 }
 
 // Does what the words ask for, but for the message.
@@ -180,14 +87,10 @@ fn work<F: Shelf, O: Sink, T: Trace>(
         (record { told = T.journal trace.old; told' = T.journal trace.new; faults = T.faults trace.old; faults' = T.faults trace.new })
         (asked (map string_bytes words.now)) result }
 {
-    let Some(name) = asked(words) else {
-        return Status::Usage;
-    };
-    match shelf.read(alloc, name, MOST_BYTES) {
-        Ok(bytes) => solve_text(alloc, bytes, out, trace),
-        Err(ReadStop::Failed) => read_fault(alloc, name),
-        Err(ReadStop::TooLong) => text_too_long(alloc, name),
-        Err(ReadStop::OutOfMemory) => Status::OutOfMemory,
+    match read_words(alloc, words) {
+        Ok(request) => answer(alloc, &request, shelf, out, trace),
+        Err(WordsFault::Usage) => Status::Usage,
+        Err(WordsFault::OutOfMemory) => Status::OutOfMemory,
     }
 }
 
@@ -210,7 +113,7 @@ fn report<E: Sink>(alloc: Global, status: Status, err: &mut E) -> Status
     }
 }
 
-/// Does all that the program does: reads the words and the file, notes each event of the search to `trace`, writes each answer set as
+/// Does all that the program does: reads the words and the files, notes each event of the search to `trace`, writes each answer set as
 /// it is found and a last line to `out`, or a message to `err`, and says how it ended.
 ///
 /// The words don't contain the program's own name.
@@ -222,55 +125,56 @@ pub fn run<F: Shelf, O: Sink, E: Sink, T: Trace>(
     err: &mut E,
     trace: &mut T,
 ) -> Status
-    // Each line that begins with `{` is the line of an answer set of the program with variables, at every status.
-    ensures shown_are_answer_sets { (P : List Rule) (b : List ℕ) → IsAccepted (asked (map string_bytes words.now)) (F.files shelf.old) P
-        → IsAppended (O.held out.old) (O.held out.new) b → Each (IsAnswerSetLine P) (set_lines b) }
+    // Each line that begins with `{` is the line of an answer set of the program with variables that the file of sets doesn't list, at
+    // every status.
+    ensures shown_are_answer_sets { (k : Task) (b : List ℕ) → IsAccepted (asked (map string_bytes words.now)) (F.files shelf.old) k
+        → IsAppended (O.held out.old) (O.held out.new) b → Each (IsNewLine k) (set_lines b) }
 
     // No two of these lines are equal, at every status.
-    ensures shown_once { (P : List Rule) (b : List ℕ) → IsAccepted (asked (map string_bytes words.now)) (F.files shelf.old) P
+    ensures shown_once { (k : Task) (b : List ℕ) → IsAccepted (asked (map string_bytes words.now)) (F.files shelf.old) k
         → IsAppended (O.held out.old) (O.held out.new) b → HasNoRepeats (set_lines b) }
 
-    // At `Finished` every answer set has its line.
-    ensures finished_is_complete { (P : List Rule) (b : List ℕ) (printed : ℕ) → IsAccepted (asked (map string_bytes words.now)) (F.files shelf.old) P
-        → IsAppended (O.held out.old) (O.held out.new) b → result ≡ Status.Finished printed → HaveAll P (set_lines b) }
+    // At `Finished` every answer set that isn't listed has its line.
+    ensures finished_is_complete { (k : Task) (b : List ℕ) (printed : ℕ) → IsAccepted (asked (map string_bytes words.now)) (F.files shelf.old) k
+        → IsAppended (O.held out.old) (O.held out.new) b → result ≡ Status.Finished printed → HaveAllOthers k (set_lines b) }
 
     // And the journal has ended: its last nogood was struck at level 0, or a set was found while no literal was chosen.
-    ensures finished_has_ended { (P : List Rule) (E : List Event) (printed : ℕ) → IsAccepted (asked (map string_bytes words.now)) (F.files shelf.old) P
-        → IsNoted (T.journal trace.old) (T.journal trace.new) E → result ≡ Status.Finished printed → AreEnded P E }
+    ensures finished_has_ended { (k : Task) (E : List Event) (printed : ℕ) → IsAccepted (asked (map string_bytes words.now)) (F.files shelf.old) k
+        → IsNoted (T.journal trace.old) (T.journal trace.new) E → result ≡ Status.Finished printed → AreEnded k E }
 
-    // The events are a legal journal of the program: what a lawful search may note. So each instance was made when its positive atoms
-    // were true or had to be.
-    ensures journal_is_legal { (P : List Rule) (E : List Event) → IsAccepted (asked (map string_bytes words.now)) (F.files shelf.old) P
-        → IsNoted (T.journal trace.old) (T.journal trace.new) E → IsLegal (rules_for P) [] E }
+    // The events are a legal journal of the program and the sets that are listed: what a lawful search may note. So each instance was made
+    // when its positive atoms were true or had to be.
+    ensures journal_is_legal { (k : Task) (E : List Event) → IsAccepted (asked (map string_bytes words.now)) (F.files shelf.old) k
+        → IsNoted (T.journal trace.old) (T.journal trace.new) E → AreLegal k E }
 
     // The set lines are those of the sets of the `Shown` events, in order; after a fault or want of memory there may be one more.
-    ensures lines_are_shown_events { (P : List Rule) (b : List ℕ) (E : List Event) → IsAccepted (asked (map string_bytes words.now)) (F.files shelf.old) P
+    ensures lines_are_shown_events { (k : Task) (b : List ℕ) (E : List Event) → IsAccepted (asked (map string_bytes words.now)) (F.files shelf.old) k
         → IsAppended (O.held out.old) (O.held out.new) b → IsNoted (T.journal trace.old) (T.journal trace.new) E
-        → LinesAre P result E (set_lines b) }
+        → LinesAre k result E (set_lines b) }
 
     // Where as many sets were noted as shown as may be written, and no write failed, the limit is reached.
-    ensures limit_is_reached { (P : List Rule) (E : List Event) → IsAccepted (asked (map string_bytes words.now)) (F.files shelf.old) P
-        → IsNoted (T.journal trace.old) (T.journal trace.new) E → length (shown_sets E) ≡ most_sets
-        → ¬ Rose (O.faults out.old) (O.faults out.new) → Gives result (Status.LimitReached most_sets) }
+    ensures limit_is_reached { (k : Task) (E : List Event) → IsAccepted (asked (map string_bytes words.now)) (F.files shelf.old) k
+        → IsNoted (T.journal trace.old) (T.journal trace.new) E → length (shown_sets E) ≡ k.settings.limit
+        → ¬ Rose (O.faults out.old) (O.faults out.new) → Gives result (Status.LimitReached k.settings.limit) }
 
     // Where the budget of conflicts is spent, so many nogoods were struck, and one more is; where that of instances is, so many were made,
     // and one more is due.
-    ensures budget_is_spent { (P : List Rule) (E : List Event) (kind : BudgetKind) (number printed : ℕ) → IsAccepted (asked (map string_bytes words.now)) (F.files shelf.old) P
+    ensures budget_is_spent { (k : Task) (E : List Event) (kind : BudgetKind) (number printed : ℕ) → IsAccepted (asked (map string_bytes words.now)) (F.files shelf.old) k
         → IsNoted (T.journal trace.old) (T.journal trace.new) E → result ≡ Status.BudgetSpent kind number printed
-        → AreSpent P E kind number }
+        → (number ≡ most_of kind k.settings) × AreSpent k E kind number }
 
     // Where an operation has no place in 64 bits, it stands in a rule of this line and has these operands, where all positive atoms of the rule
     // are true or must-be-true.
-    ensures overflow_in_rule { (P : List Rule) (E : List Event) (line : ℕ) (op : Operation) (left right : ℤ) (printed : ℕ)
-        → IsAccepted (asked (map string_bytes words.now)) (F.files shelf.old) P
+    ensures overflow_in_rule { (k : Task) (E : List Event) (line : ℕ) (op : Operation) (left right : ℤ) (printed : ℕ)
+        → IsAccepted (asked (map string_bytes words.now)) (F.files shelf.old) k
         → IsNoted (T.journal trace.old) (T.journal trace.new) E → result ≡ Status.Overflow line op left right printed
-        → AreOverflow P E line op left right }
+        → AreOverflow k E line op left right }
 
     // Where a term is too large, a rule of this line, whose positive atoms are all true or must-be-true, has a term or part of a term of
     // this size.
-    ensures term_too_large { (P : List Rule) (E : List Event) (line size printed : ℕ) → IsAccepted (asked (map string_bytes words.now)) (F.files shelf.old) P
+    ensures term_too_large { (k : Task) (E : List Event) (line size printed : ℕ) → IsAccepted (asked (map string_bytes words.now)) (F.files shelf.old) k
         → IsNoted (T.journal trace.old) (T.journal trace.new) E → result ≡ Status.TermTooLarge line size printed
-        → AreTooLarge P E line size }
+        → AreTooLarge k E line size }
 
     // What was written, byte for byte, at every status and whatever the file; what stood there before stays.
     ensures output_is_appended { OnlyAppends (O.held out.old) (O.held out.new) }
@@ -280,10 +184,10 @@ pub fn run<F: Shelf, O: Sink, E: Sink, T: Trace>(
     ensures events_are_appended { OnlyNotes (T.journal trace.old) (T.journal trace.new) }
     ensures nothing_is_noted { IsUnsearched result → T.journal trace.new ≡ T.journal trace.old }
 
-    // The message, byte for byte, and nothing is named to the trace.
+    // The message, byte for byte, and the name of the journal's file.
     ensures message_is_appended { OnlyAppends (E.held err.old) (E.held err.new) }
     ensures message_and_trace_name { ((m : List ℕ) → IsAppended (E.held err.old) (E.held err.new) m → MessageIs (E.faults err.old) (E.faults err.new) result m)
-        × NameIsKept (T.journal trace.old) (T.journal trace.new) }
+        × TraceNameIs (trace_name (asked (map string_bytes words.now))) (T.journal trace.old) (T.journal trace.new) result }
     ensures files_are_unchanged { F.files shelf.new ≡ F.files shelf.old }
 
     // Each status by its cause.
@@ -294,12 +198,19 @@ pub fn run<F: Shelf, O: Sink, E: Sink, T: Trace>(
         result }
     ensures refused_words { asked (map string_bytes words.now) ≡ None → IsRefusedWords result }
 
-    // A file that is too long ends so, a text that is refused too, and an accepted one as a search that nothing stopped.
+    // Plain words are never refused: they ask for just what they say.
+    ensures plain_words { (request : Asked) → IsPlain (map string_bytes words.now) request → asked (map string_bytes words.now) ≡ Some request }
+
+    // A file that is too long ends so, a text or a file of sets that is refused too, and an accepted one as a search that nothing stopped.
     ensures each_too_long { (name : List ℕ) → IsOverlong (asked (map string_bytes words.now)) (F.files shelf.old) name
         → ¬ Rose (F.faults shelf.old) (F.faults shelf.new) → Gives result (Status.TextTooLong name) }
     ensures each_refusal { (reason : Reason) → IsRefusedFile (asked (map string_bytes words.now)) (F.files shelf.old) reason
         → ¬ Rose (F.faults shelf.old) (F.faults shelf.new) → Gives result (Status.Refused reason) }
-    ensures accepted_ends { (P : List Rule) → IsAccepted (asked (map string_bytes words.now)) (F.files shelf.old) P
+    ensures each_list_too_long { (name : List ℕ) → IsOverlongList (asked (map string_bytes words.now)) (F.files shelf.old) name
+        → ¬ Rose (F.faults shelf.old) (F.faults shelf.new) → Gives result (Status.TextTooLong name) }
+    ensures each_list_refusal { (line : ℕ) → IsRefusedList (asked (map string_bytes words.now)) (F.files shelf.old) line
+        → ¬ Rose (F.faults shelf.old) (F.faults shelf.new) → Gives result (Status.AfterRefused line) }
+    ensures accepted_ends { (k : Task) → IsAccepted (asked (map string_bytes words.now)) (F.files shelf.old) k
         → ¬ Rose (F.faults shelf.old) (F.faults shelf.new) → ¬ Rose (O.faults out.old) (O.faults out.new)
         → ¬ Rose (T.faults trace.old) (T.faults trace.new) → IsEnded result }
 {

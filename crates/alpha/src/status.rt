@@ -1,7 +1,7 @@
 //! How a run ends, and what is written of it.
 
 ghost use Rattle.std.specs.Prelude.{◌≡◌, ◌++◌, IfOk, string_bytes};
-ghost use Rattle.alpha.specs.Texts.{code_of, finished_line, limit_line, budget_line, last_line_of, overflow_line, too_large_line, around, placed, lined, refusal_message, has_message, message_of};
+ghost use Rattle.alpha.specs.Texts.{code_of, finished_line, limit_line, budget_line, last_line_of, overflow_line, too_large_line, after_message, around, placed, lined, refusal_message, has_message, message_of};
 
 use alpha_outside::{ArithOp, List, Name, OutOfMemory};
 use asp_syntax::{Place, What};
@@ -56,6 +56,10 @@ pub enum Status {
     ReadFault {
         name: Name,
     },
+    /// This line of the file of sets, counted from 1, is the first that is no set, comment or empty line.
+    AfterRefused {
+        line: u64,
+    },
     WriteFault,
     TraceFault,
     OutOfMemory,
@@ -98,6 +102,7 @@ impl Status {
             Status::Refused(_) => 3,
             Status::TextTooLong { .. } => 5,
             Status::ReadFault { .. } => 6,
+            Status::AfterRefused { .. } => 4,
             Status::WriteFault => 7,
             Status::TraceFault => 8,
             Status::OutOfMemory => 9,
@@ -222,6 +227,14 @@ fn placed(alloc: Global, before: &[u8], at: Place) -> Result<List<u8>, OutOfMemo
     Ok(List::from_vec(text))
 }
 
+// The message for a line of the file of sets.
+fn after_message(alloc: Global, line: u64) -> Result<List<u8>, OutOfMemory>
+    ensures { IfOk result (λ l. l ≡ after_message line) }
+{
+    let text = format!(in alloc; "alpha: line {line} of the after file is not a set\n")?;
+    Ok(List::from_slice(alloc, text.as_bytes())?)
+}
+
 // A text behind the line of a statement.
 fn lined(alloc: Global, line: u32, after: &[u8]) -> Result<List<u8>, OutOfMemory>
     ensures { IfOk result (λ l. l ≡ lined line after.now) }
@@ -287,6 +300,7 @@ pub fn message(alloc: Global, status: &Status) -> Result<List<u8>, OutOfMemory>
         Status::Refused(refusal) => refusal_message(alloc, refusal),
         Status::TextTooLong { name } => around(alloc, b"alpha: ", name.as_bytes(), b" is too long"),
         Status::ReadFault { name } => around(alloc, b"alpha: cannot read ", name.as_bytes(), b""),
+        Status::AfterRefused { line } => after_message(alloc, *line),
         Status::WriteFault => Ok(List::from_slice(alloc, b"alpha: cannot write\n")?),
         Status::TraceFault => Ok(List::from_slice(alloc, b"alpha: cannot write the trace\n")?),
         Status::OutOfMemory => Ok(List::from_slice(alloc, b"alpha: out of memory\n")?),

@@ -1,20 +1,17 @@
-ghost use Rattle.std.specs.Prelude.{◌≤◌, length};
-
-use crate::cores::core_for;
 use crate::run::run;
-use crate::status::{BudgetKind, Refusal, Status, last_line, message};
-use crate::text::read_text;
-use alpha_outside::{ArithOp, Event, List, Maker, MemShelf, MemSink, MemTrace, Name, NoTrace};
-use enumerator::{End, Settings, search};
+use crate::status::{Refusal, Status, message};
+use alpha_outside::{
+    ArithOp, Event, List, Maker, MemShelf, MemSink, MemTrace, Name, ReadStop, Shelf,
+};
 use std::alloc::Global;
 use std::test::Fail;
 
-// One run: its words with blanks between them, the one file, which writes to the output fail, having taken how much, and which notes
-// to the trace fail.
+// One run: its words with blanks between them, the files, which writes to the output fail, having taken how much, and which calls of
+// the trace fail.
 #[derive(Clone, Copy)]
 struct Case<'a> {
     words: &'a str,
-    file: (&'a [u8], &'a [u8]),
+    files: &'a [(&'a [u8], &'a [u8])],
     failing: &'a [u64],
     cut: usize,
     untraced: &'a [u64],
@@ -39,11 +36,19 @@ fn shown(events: &[Event]) -> usize {
         .count()
 }
 
+// A shelf with these files.
+fn shelf_of(alloc: Global, files: &[(&[u8], &[u8])]) -> Result<MemShelf, Fail> {
+    let mut shelf = MemShelf::new(alloc, List::new(alloc));
+    for (name, bytes) in files {
+        shelf.add(alloc, name, bytes)?;
+    }
+    Ok(shelf)
+}
+
 // The code, the bytes of the output, those of the messages, and how many sets the trace was told of.
 fn ran(alloc: Global, case: &Case<'_>) -> Result<String, Fail> {
     let words = owned(alloc, case.words)?;
-    let mut shelf = MemShelf::new(alloc, List::new(alloc));
-    shelf.add(alloc, case.file.0, case.file.1)?;
+    let mut shelf = shelf_of(alloc, case.files)?;
     let mut out = MemSink::new(alloc, List::from_slice(alloc, case.failing)?, case.cut);
     let mut err = MemSink::new(alloc, List::new(alloc), 0);
     let mut trace = MemTrace::new(alloc, List::from_slice(alloc, case.untraced)?);
@@ -54,17 +59,22 @@ fn ran(alloc: Global, case: &Case<'_>) -> Result<String, Fail> {
     Ok(format!(in alloc; "{} {bytes}|{message}|{sets}", status.code())?)
 }
 
-fn solved(alloc: Global, text: &[u8]) -> Result<String, Fail> {
+// The same of a run in which nothing fails.
+fn ran_well(alloc: Global, words: &str, files: &[(&[u8], &[u8])]) -> Result<String, Fail> {
     ran(
         alloc,
         &Case {
-            words: "solve p.lp",
-            file: (b"p.lp", text),
+            words,
+            files,
             failing: &[],
             cut: 0,
             untraced: &[],
         },
     )
+}
+
+fn solved(alloc: Global, text: &[u8]) -> Result<String, Fail> {
+    ran_well(alloc, "solve p.lp", &[(b"p.lp", text)])
 }
 
 #[test]
@@ -155,8 +165,7 @@ fn ends_with_a_set(events: &[Event]) -> bool {
 // The status of a run over this one file, which notes to the trace.
 fn traced(alloc: Global, text: &[u8], trace: &mut MemTrace) -> Result<Status, Fail> {
     let words = owned(alloc, "solve p.lp")?;
-    let mut shelf = MemShelf::new(alloc, List::new(alloc));
-    shelf.add(alloc, b"p.lp", text)?;
+    let mut shelf = shelf_of(alloc, &[(b"p.lp", text)])?;
     let mut out = MemSink::new(alloc, List::new(alloc), 0);
     let mut err = MemSink::new(alloc, List::new(alloc), 0);
     Ok(run(alloc, &words, &mut shelf, &mut out, &mut err, trace))
@@ -213,41 +222,49 @@ fn rules_that_are_not_reached_have_no_instances(rt: HostRuntime) -> Result<(), F
     Ok(())
 }
 
-// How the search for the sets of a text ends, where so many instances may be made, and none if there is no search.
-fn ended(alloc: Global, text: &[u8], instances: u64, out: &mut MemSink) -> Option<End>
-    requires { length text.now ≤ 16777217 }
-{
-    let Ok(program) = read_text(alloc, text) else {
-        return None;
-    };
-    let Ok(core) = core_for(alloc, program) else {
-        return None;
-    };
-    let settings = Settings {
-        limit: 10,
-        conflicts: 10,
-        instances,
-    };
-    match search(alloc, core, settings, out, &mut NoTrace) {
-        Ok(end) => Some(end),
-        Err(_) => None,
-    }
-}
-
-// Whether the search ended with the budget of instances, with nothing printed.
-fn is_spent(end: &Option<End>) -> bool {
-    match end {
-        Some(End::Instances { printed }) => *printed == 0,
-        _ => false,
-    }
-}
-
 #[test]
-fn an_endless_rule_ends_with_its_budget(rt: HostRuntime) -> Result<(), Fail> {
-    let mut out = MemSink::new(rt.alloc(), List::new(rt.alloc()), 0);
-    let end = ended(rt.alloc(), b"p(0). p(f(X)) :- p(X).", 5, &mut out);
-    assert!(rt; is_spent(&end));
-    assert!(rt; out.bytes().is_empty());
+fn budgets_end_a_run(rt: HostRuntime) -> Result<(), Fail> {
+    let rows = [
+        (
+            "solve --instances 5 p.lp",
+            b"p(0). p(s(X)) :- p(X).".as_slice(),
+            "11 % budget instances 5, 0 printed\n||0",
+        ),
+        (
+            "solve --conflicts 1 p.lp",
+            b"{a; b}. :- a, b. :- a, not b. :- not a, b. :- not a, not b.".as_slice(),
+            "11 % budget conflicts 1, 0 printed\n||0",
+        ),
+    ];
+    for (words, text, want) in rows {
+        assert_eq!(rt;
+            ran_well(rt.alloc(), words, &[(b"p.lp", text)])?.as_str(),
+            want
+        );
+    }
+    Ok(())
+}
+
+// Where so many sets are written as may be, nothing is said of further ones.
+#[test]
+fn limits_end_a_run(rt: HostRuntime) -> Result<(), Fail> {
+    let rows = [
+        ("solve --limit 2 p.lp", "10 {", 2, "% limit, 2 printed\n||2"),
+        ("solve --limit 3 p.lp", "10 {", 3, "% limit, 3 printed\n||3"),
+        ("solve --limit 4 p.lp", "10 {", 4, "% limit, 4 printed\n||4"),
+        (
+            "solve --limit 5 p.lp",
+            "0 {",
+            4,
+            "% complete, 4 printed\n||4",
+        ),
+    ];
+    for (words, start, many, end) in rows {
+        let got = ran_well(rt.alloc(), words, &[(b"p.lp", b"{a; b}.")])?;
+        let got = got.as_str();
+        assert!(rt; got.starts_with(start) && got.ends_with(end), "at {words}");
+        assert_eq!(rt; got.split("}\n").count(), many + 1);
+    }
     Ok(())
 }
 
@@ -481,70 +498,211 @@ fn nesting_has_a_limit(rt: HostRuntime) -> Result<(), Fail> {
     Ok(())
 }
 
+// What a run says, of which nothing fails but the first reading of a file; and whether no file was read.
+fn ran_unread(alloc: Global, words: &str) -> Result<(String, bool), Fail> {
+    let words = owned(alloc, words)?;
+    let mut shelf = MemShelf::new(alloc, List::from_slice(alloc, &[0])?);
+    shelf.add(alloc, b"p.lp", b"a.")?;
+    let mut out = MemSink::new(alloc, List::new(alloc), 0);
+    let mut err = MemSink::new(alloc, List::new(alloc), 0);
+    let mut trace = MemTrace::new(alloc, List::new(alloc));
+    let status = run(alloc, &words, &mut shelf, &mut out, &mut err, &mut trace);
+    let message = std::str::from_utf8(err.bytes()).unwrap_or("no text");
+    let said = format!(in alloc; "{} {message}", status.code())?;
+    let is_first = matches!(shelf.read(alloc, b"p.lp", 2), Err(ReadStop::Failed));
+    Ok((said, is_first && out.bytes().is_empty()))
+}
+
 #[test]
 fn words_that_are_refused(rt: HostRuntime) -> Result<(), Fail> {
     let usage =
-        "2 |alpha: usage: alpha solve [--after FILE] [--limit N] [--conflicts N] [--instances N] [--trace FILE] FILE... or alpha sample SEED N\n|0";
+        "2 alpha: usage: alpha solve [--after FILE] [--limit N] [--conflicts N] [--instances N] [--trace FILE] FILE... or alpha sample SEED N\n";
     let rows = [
         "",
         "solve",
-        "solve ",
-        "solve --help",
-        "solve -x",
-        "solve p.lp p.lp",
+        "solve --limit 2",
+        "solve --help p.lp",
+        "solve -x p.lp",
+        "solve p.lp --after",
+        "solve --limit 1 --limit 2 p.lp",
         "solve --limit 0 p.lp",
+        "solve --limit 01 p.lp",
+        "solve --conflicts 10000000000000 p.lp",
+        "solve --instances 10000000000000 p.lp",
+        "solve --instances 00000000000001 p.lp",
         "prove p.lp",
         "sample 1 0",
     ];
     for words in rows {
-        let case = Case {
-            words,
-            file: (b"p.lp", b"a."),
-            failing: &[],
-            cut: 0,
-            untraced: &[],
-        };
-        assert_eq!(rt; ran(rt.alloc(), &case)?.as_str(), usage);
+        let (said, is_unread) = ran_unread(rt.alloc(), words)?;
+        assert_eq!(rt; said.as_str(), usage, "at {words}");
+        assert!(rt; is_unread, "at {words}");
     }
-    let standard_input = Case {
-        words: "solve -",
-        file: (b"-", b"a."),
-        failing: &[],
-        cut: 0,
-        untraced: &[],
-    };
-    assert_eq!(rt;
-        ran(rt.alloc(), &standard_input)?.as_str(),
-        "0 {a}\n% complete, 1 printed\n||1"
-    );
     Ok(())
 }
 
 #[test]
-fn files_that_cannot_be_read(rt: HostRuntime) -> Result<(), Fail> {
+fn files_of_a_program_are_one_text(rt: HostRuntime) -> Result<(), Fail> {
+    let rows = [
+        (
+            "solve p q",
+            b"a".as_slice(),
+            b".".as_slice(),
+            "0 {a}\n% complete, 1 printed\n||1",
+        ),
+        (
+            "solve p q",
+            b"a. % and so on".as_slice(),
+            b"b :- a.".as_slice(),
+            "0 {a, b}\n% complete, 1 printed\n||1",
+        ),
+        (
+            "solve p none q",
+            b"a.".as_slice(),
+            b"b".as_slice(),
+            "6 |alpha: cannot read none\n|0",
+        ),
+    ];
+    for (words, first, second, want) in rows {
+        let files = [(b"p".as_slice(), first), (b"q".as_slice(), second)];
+        assert_eq!(rt; ran_well(rt.alloc(), words, &files)?.as_str(), want);
+    }
+    Ok(())
+}
+
+#[test]
+fn sets_that_are_listed_are_left_out(rt: HostRuntime) -> Result<(), Fail> {
+    let rows = [
+        (
+            b"a :- not b. b :- not a.".as_slice(),
+            b"{ a }\n{b".as_slice(),
+            "0 {b}\n% complete, 1 printed\n||1",
+        ),
+        (
+            b"a :- not b. b :- not a.".as_slice(),
+            b"% two sets\n\n{b}\n{a}".as_slice(),
+            "0 % complete, 0 printed\n||0",
+        ),
+        (
+            b"{a}. b.".as_slice(),
+            b"{b,a}\n{a, b}\n".as_slice(),
+            "0 {b}\n% complete, 1 printed\n||1",
+        ),
+        (
+            b"{a}. b.".as_slice(),
+            b"{x\n".as_slice(),
+            "4 |alpha: line 1 of the after file is not a set\n|0",
+        ),
+        (
+            b"{a}. b.".as_slice(),
+            b"{a}\n\n{b}, {x}\n{b\n".as_slice(),
+            "4 |alpha: line 3 of the after file is not a set\n|0",
+        ),
+        (
+            b"{a} <= 1.".as_slice(),
+            b"{x\n".as_slice(),
+            "3 |alpha: line 1: not built yet\n|0",
+        ),
+    ];
+    for (program, listed, want) in rows {
+        let files = [(b"p.lp".as_slice(), program), (b"s".as_slice(), listed)];
+        let got = ran_well(rt.alloc(), "solve --after s p.lp", &files)?;
+        assert_eq!(rt; got.as_str(), want);
+    }
+    let missing = ran_well(rt.alloc(), "solve --after s p.lp", &[(b"p.lp", b"a.")])?;
+    assert_eq!(rt; missing.as_str(), "6 |alpha: cannot read s\n|0");
+    Ok(())
+}
+
+// What a run writes in which nothing fails.
+fn written(alloc: Global, words: &str, files: &[(&[u8], &[u8])]) -> Result<Vec<u8>, Fail> {
+    let words = owned(alloc, words)?;
+    let mut shelf = shelf_of(alloc, files)?;
+    let mut out = MemSink::new(alloc, List::new(alloc), 0);
+    let mut err = MemSink::new(alloc, List::new(alloc), 0);
+    let mut trace = MemTrace::new(alloc, List::new(alloc));
+    let _status = run(alloc, &words, &mut shelf, &mut out, &mut err, &mut trace);
+    Ok(out.bytes().to_vec(alloc)?)
+}
+
+// How often a text has this line. Its last line may have no line feed.
+fn times(text: &[u8], line: &str) -> usize {
+    let text = std::str::from_utf8(text).unwrap_or("");
+    text.split('\n').filter(|one| *one == line).count()
+}
+
+// However an output was cut off, a run that goes on after it writes each of the other sets once.
+#[test]
+fn a_run_goes_on_after_each_front_of_its_output(rt: HostRuntime) -> Result<(), Fail> {
     let alloc = rt.alloc();
-    let missing = Case {
-        words: "solve none.lp",
-        file: (b"p.lp", b"a."),
-        failing: &[],
-        cut: 0,
-        untraced: &[],
+    let program = b"{a; b}.".as_slice();
+    let whole = written(alloc, "solve p.lp", &[(b"p.lp", program)])?;
+    for end in 0..=whole.len() {
+        let front = whole.get(..end).unwrap_or(b"");
+        let files = [(b"p.lp".as_slice(), program), (b"s".as_slice(), front)];
+        let rest = written(alloc, "solve --after s p.lp", &files)?;
+        for line in ["{}", "{a}", "{b}", "{a, b}"] {
+            let both = (times(front, line), times(&rest, line));
+            assert!(rt; both == (1, 0) || both == (0, 1), "{line} at {end}");
+        }
+    }
+    Ok(())
+}
+
+// The code of a run whose calls of the trace of these numbers fail, the name that the trace was given, and how many events.
+fn named(alloc: Global, words: &str, text: &[u8], untraced: &[u64]) -> Result<String, Fail> {
+    let words = owned(alloc, words)?;
+    let mut shelf = shelf_of(alloc, &[(b"p.lp", text)])?;
+    let mut out = MemSink::new(alloc, List::new(alloc), 0);
+    let mut err = MemSink::new(alloc, List::new(alloc), 0);
+    let mut trace = MemTrace::new(alloc, List::from_slice(alloc, untraced)?);
+    let status = run(alloc, &words, &mut shelf, &mut out, &mut err, &mut trace);
+    let name = match trace.name() {
+        Some(name) => std::str::from_utf8(name).unwrap_or("no text"),
+        None => "none",
     };
-    assert_eq!(rt;
-        ran(alloc, &missing)?.as_str(),
-        "6 |alpha: cannot read none.lp\n|0"
-    );
-    let mut text = Vec::new(alloc);
-    text.resize(16_777_217, b' ')?;
-    assert_eq!(rt;
-        solved(alloc, &text)?.as_str(),
-        "5 |alpha: p.lp is too long\n|0"
-    );
-    text.truncate(16_777_216);
-    assert_eq!(rt;
-        solved(alloc, &text)?.as_str(),
-        "0 {}\n% complete, 1 printed\n||1"
-    );
+    let sets = shown(trace.events());
+    Ok(format!(in alloc; "{} {name} {sets}", status.code())?)
+}
+
+#[test]
+fn a_journal_is_begun_where_a_search_is(rt: HostRuntime) -> Result<(), Fail> {
+    let rows = [
+        ("solve p.lp", b"a.".as_slice(), [].as_slice(), "0 none 1"),
+        (
+            "solve --trace t p.lp",
+            b"a.".as_slice(),
+            [].as_slice(),
+            "0 t 1",
+        ),
+        (
+            "solve --trace t p.lp",
+            b"a".as_slice(),
+            [].as_slice(),
+            "3 none 0",
+        ),
+        (
+            "solve --trace t --after s p.lp",
+            b"a.".as_slice(),
+            [].as_slice(),
+            "6 none 0",
+        ),
+        (
+            "solve --trace t p.lp",
+            b"a.".as_slice(),
+            [0].as_slice(),
+            "8 none 0",
+        ),
+        (
+            "solve --trace t p.lp",
+            b"a.".as_slice(),
+            [1].as_slice(),
+            "8 t 0",
+        ),
+    ];
+    for (words, text, untraced, want) in rows {
+        assert_eq!(rt; named(rt.alloc(), words, text, untraced)?.as_str(), want);
+    }
     Ok(())
 }
 
@@ -559,7 +717,7 @@ fn writes_that_fail_keep_what_was_written(rt: HostRuntime) -> Result<(), Fail> {
     for (failing, cut, want) in rows {
         let case = Case {
             words: "solve p.lp",
-            file: (b"p.lp", b"a."),
+            files: &[(b"p.lp", b"a.")],
             failing,
             cut,
             untraced: &[],
@@ -573,7 +731,7 @@ fn writes_that_fail_keep_what_was_written(rt: HostRuntime) -> Result<(), Fail> {
 fn a_write_that_fails_between_two_sets(rt: HostRuntime) -> Result<(), Fail> {
     let case = Case {
         words: "solve p.lp",
-        file: (b"p.lp", b"a :- not b. b :- not a."),
+        files: &[(b"p.lp", b"a :- not b. b :- not a.")],
         failing: &[1],
         cut: 2,
         untraced: &[],
@@ -590,7 +748,7 @@ fn a_write_that_fails_between_two_sets(rt: HostRuntime) -> Result<(), Fail> {
 fn a_trace_that_fails_ends_the_run(rt: HostRuntime) -> Result<(), Fail> {
     let case = Case {
         words: "solve p.lp",
-        file: (b"p.lp", b"a :- not b. b :- not a."),
+        files: &[(b"p.lp", b"a :- not b. b :- not a.")],
         failing: &[],
         cut: 0,
         untraced: &[1],
@@ -599,48 +757,6 @@ fn a_trace_that_fails_ends_the_run(rt: HostRuntime) -> Result<(), Fail> {
         ran(rt.alloc(), &case)?.as_str(),
         "8 |alpha: cannot write the trace\n|0"
     );
-    Ok(())
-}
-
-// Whether the status has this code and this last line.
-fn ends_with(alloc: Global, status: &Status, code: u8, want: &[u8]) -> bool {
-    match last_line(alloc, status) {
-        Ok(line) => status.code() == code && line.as_slice() == want,
-        Err(_) => false,
-    }
-}
-
-#[test]
-fn last_lines_of_searches_that_were_stopped(rt: HostRuntime) -> Result<(), Fail> {
-    let alloc = rt.alloc();
-    let limit = Status::LimitReached { printed: 2 };
-    assert!(rt; ends_with(alloc, &limit, 10, b"% limit, 2 printed\n"));
-    let conflicts = Status::BudgetSpent {
-        budget: BudgetKind::Conflicts,
-        number: 1,
-        printed: 0,
-    };
-    assert!(rt; ends_with(alloc, &conflicts, 11, b"% budget conflicts 1, 0 printed\n"));
-    let instances = Status::BudgetSpent {
-        budget: BudgetKind::Instances,
-        number: 5,
-        printed: 0,
-    };
-    assert!(rt; ends_with(alloc, &instances, 11, b"% budget instances 5, 0 printed\n"));
-    let too_large = Status::TermTooLarge {
-        line: 3,
-        size: 1_048_577,
-        printed: 2,
-    };
-    assert!(rt;
-        ends_with(
-            alloc,
-            &too_large,
-            13,
-            b"% term too large line 3, 2 printed\n"
-        )
-    );
-    assert!(rt; speaks_so(alloc, &too_large, 13, b""));
     Ok(())
 }
 

@@ -38,7 +38,7 @@ fn parse_status(fault: ParseFault) -> Status
 
 /// The program of a text, each of whose statements is built; or the status with which the run ends.
 pub fn read_text(alloc: Global, text: &[u8]) -> Result<Program, Status>
-    requires { length text.now ≤ 16777217 }
+    requires { length text.now ≤ 16842752 }
     ensures program { IfOk result (λ program. IsBuiltText text.now program.statements) }
     ensures well_formed { IfOk result IsWellFormedProgram }
     ensures built { IfOk result (λ program. unbuilt program.statements ≡ None) }

@@ -4,7 +4,7 @@ use Rattle.std.specs.Prelude.{Option, Some, None, Ok, Err}
 use Rattle.alpha_outside.specs.Outside as outside
 use Rattle.search_state.specs.Searching.{Searching, IsAllTold}
 use Rattle.search_journals.specs.Standing as standing
-use Rattle.search_journals.specs.Standing.{IsReady, Fits, Stands, Ends}
+use Rattle.search_journals.specs.Standing.{Listed, IsReady, Fits, Stands, Ends}
 use Rattle.alpha_outside.specs.declared.pred.Pred.{Pred}
 use Rattle.core_rules.specs.declared.rules.Core.{Core}
 use Rattle.search_rules.specs.Stage.{IsSearchable}
@@ -15,7 +15,7 @@ use Rattle.search_journals.specs.Settling.{StandsSomewhere, EndsFrom, LeavesFrom
 use Rattle.search_journals.specs.Moves.{MoveIs, IsHalt}
 use Rattle.search_journals.specs.declared.moves.Move.{Move}
 use Rattle.search_journals.specs.declared.moves.Move.TheVariants as move
-use Rattle.search_journals.specs.declared.ends.Settings.{Settings}
+use Rattle.search_settings.specs.declared.Settings.{Settings}
 use Rattle.search_journals.specs.declared.ends.End.{End}
 use Rattle.search_journals.specs.declared.ends.SearchFault.{SearchFault}
 use Rattle.search_journals.specs.declared.ends.Finish.{Finish}
@@ -43,9 +43,9 @@ ends_stop g v told held left rest fits s room all move.Stuck how is next = absur
 ends_stop g v told held left rest fits s room all move.Full how is next = absurd is
 
 -- so it ends wherever it stands
-pub stop_ends : (v : Searching) (told : Option outside.Journal) (held : Option (List ℕ)) (left rest : ℕ) → 0 < left → IsAllTold v
-    → (m : Move) (how : Finish) → IsEndBy m how → MoveIs v m → EndsFrom v told told held held (left, rest) (left, rest) how
-stop_ends v told held left rest room all m how is next g fits s = ends_stop g v told held left rest fits s room all m how is next
+pub stop_ends : (book : List (List ℕ)) (v : Searching) (told : Option outside.Journal) (held : Option (List ℕ)) (left rest : ℕ) → 0 < left → IsAllTold v
+    → (m : Move) (how : Finish) → IsEndBy m how → MoveIs v m → EndsFrom book v told told held held (left, rest) (left, rest) how
+stop_ends book v told held left rest room all m how is next g fits lists s = ends_stop g v told held left rest fits s room all m how is next
 
 -- a halt that is no conflict, no stuck atom and no set is such an end
 pub other_stops : (m : Move) → IsHalt m → ((n : ℕ) → ¬ (m ≡ move.Strike n)) → ¬ (m ≡ move.Stuck) → ¬ (m ≡ move.Full) → IsStop m
@@ -84,21 +84,21 @@ module _ (core : Core) (settings : Settings) (v : Searching) (new : (preds : Lis
 pub stop_here : (o : Option Move) (m : Move) → o ≡ Some m → StopsIf o → IsStop m
 stop_here o m is stops = subst StopsIf is stops
 
-module _ (v : Searching) (searchable : IsSearchable v.core) (settings : Settings) (some : 0 < settings.limit) (sink : SinkChange)
+module _ (v : Searching) (searchable : IsSearchable v.core) (lists : Listed) (settings : Settings) (some : 0 < settings.limit) (sink : SinkChange)
     (trace : TraceChange) (new : IsNew settings v) (v1 : Searching) (told : Option outside.Journal) where
   -- the grounder stopped at the start, and the search ended by that
   pub stop_answers : (o : Option Move) (m : Move) → o ≡ Some m → Begins v v1 trace.told told o → trace.told' ≡ told → sink.held' ≡ sink.held
-      → (how : Finish) → IsEndBy m how → (e : End) → e ≡ ended how 0 → SearchAnswer v.core settings sink trace (Ok e)
+      → (how : Finish) → IsEndBy m how → (e : End) → e ≡ ended how 0 → SearchAnswer v.core lists.sets settings sink trace (Ok e)
   stop_answers o m is begins same kept how by e e_is =
       let begun = subst (Begins v v1 trace.told told) is begins in
-      let at = stop_ends v1 told sink.held settings.limit settings.conflicts some begun.0.all m how by begun.2 in
-      let here = subst (λ t. EndsFrom v1 told t sink.held sink.held' (settings.limit, settings.conflicts)
+      let at = stop_ends lists.book v1 told sink.held settings.limit settings.conflicts some begun.0.all m how by begun.2 in
+      let here = subst (λ t. EndsFrom lists.book v1 told t sink.held sink.held' (settings.limit, settings.conflicts)
       (settings.limit, settings.conflicts) how)
       (sym same)
-      (subst (λ h. EndsFrom v1 told told sink.held h (settings.limit, settings.conflicts) (settings.limit, settings.conflicts) how)
+      (subst (λ h. EndsFrom lists.book v1 told told sink.held h (settings.limit, settings.conflicts) (settings.limit, settings.conflicts) how)
       (sym kept) at) in
-      subst (λ z. SearchAnswer v.core settings sink trace (Ok z)) (sym e_is)
-      (ends_first v.core searchable settings some sink trace v new.0 new.1 v1 told begun.0.core
+      subst (λ z. SearchAnswer v.core lists.sets settings sink trace (Ok z)) (sym e_is)
+      (ends_first v.core searchable lists settings some sink trace v new.0 new.1 v1 told begun.0.core
       (begun.0.carries sink.held settings.limit settings.conflicts) settings.limit settings.conflicts how here 0 (omega arith))
 
   module _ (o : Option Move) (none : o ≡ None) (begins : Begins v v1 trace.told told o) where
@@ -107,28 +107,28 @@ module _ (v : Searching) (searchable : IsSearchable v.core) (settings : Settings
     ready_first = (subst (Begins v v1 trace.told told) none begins).1
 
     -- and stands somewhere
-    pub stands_begun : StandsSomewhere v1 told sink.held settings.limit settings.conflicts
+    pub stands_begun : StandsSomewhere lists.book v1 told sink.held settings.limit settings.conflicts
     stands_begun =
         let begun = subst (Begins v v1 trace.told told) none begins in
-        stands_first v.core searchable settings some sink trace v new.0 new.1 v1 told begun.0.core
+        stands_first v.core searchable lists settings some sink trace v new.0 new.1 v1 told begun.0.core
         (begun.0.carries sink.held settings.limit settings.conflicts)
 
     -- a fault of its rounds is one of the search
     pub leaves_begun : (mid : ℕ) (fault : SearchFault) → trace.faults ≤ mid
-        → LeavesFrom v1 told trace.told' sink.held sink.held' (settings.limit, settings.conflicts) (sink.faults, sink.faults')
-        (mid, trace.faults') fault → SearchAnswer v.core settings sink trace (Err fault)
+        → LeavesFrom lists.book v1 told trace.told' sink.held sink.held' (settings.limit, settings.conflicts) (sink.faults, sink.faults')
+        (mid, trace.faults') fault → SearchAnswer v.core lists.sets settings sink trace (Err fault)
     leaves_begun mid fault later leaves =
         let begun = subst (Begins v v1 trace.told told) none begins in
-        leaves_first v.core searchable settings some sink trace v new.0 new.1 v1 told begun.0.core
+        leaves_first v.core searchable lists settings some sink trace v new.0 new.1 v1 told begun.0.core
         (begun.0.carries sink.held settings.limit settings.conflicts) mid fault later leaves
 
     -- and the end of its rounds is its end
     pub ends_begun : (left rest : ℕ) (how : Finish) → left ≤ settings.limit
-        → EndsFrom v1 told trace.told' sink.held sink.held' (settings.limit, settings.conflicts) (left, rest) how
-        → (e : End) → e ≡ ended how (settings.limit - left) → SearchAnswer v.core settings sink trace (Ok e)
+        → EndsFrom lists.book v1 told trace.told' sink.held sink.held' (settings.limit, settings.conflicts) (left, rest) how
+        → (e : End) → e ≡ ended how (settings.limit - left) → SearchAnswer v.core lists.sets settings sink trace (Ok e)
     ends_begun left rest how fewer ends e e_is =
         let begun = subst (Begins v v1 trace.told told) none begins in
         let all : settings.limit - left + left ≡ settings.limit = omega (arith, fewer) in
-        subst (λ z. SearchAnswer v.core settings sink trace (Ok z)) (sym e_is)
-        (ends_first v.core searchable settings some sink trace v new.0 new.1 v1 told begun.0.core
+        subst (λ z. SearchAnswer v.core lists.sets settings sink trace (Ok z)) (sym e_is)
+        (ends_first v.core searchable lists settings some sink trace v new.0 new.1 v1 told begun.0.core
         (begun.0.carries sink.held settings.limit settings.conflicts) left rest how ends (settings.limit - left) all)

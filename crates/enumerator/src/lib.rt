@@ -3,7 +3,7 @@
 //! The instances without positive atoms are made first. Then the search propagates values, hands each atom that has become true or
 //! must-be-true to the grounder, which makes the instances that are due with it, and chooses bodies, until a nogood is struck, an atom stays
 //! must-be-true, a set is found, or the grounder stops. After a conflict, a stuck atom or a set it learns the literals chosen as a nogood, and
-//! goes on.
+//! goes on. A set that the book lists is passed over.
 //!
 //! Why all this is right stands in `search_journals`: a contract here says what a step leaves in the words of its `specs`, and an answer
 //! names its lemma.
@@ -16,6 +16,7 @@ mod moves;
 mod propagating;
 mod searching;
 mod settle;
+mod showing;
 mod steps;
 #[cfg(test)]
 mod tests;

@@ -1,17 +1,19 @@
 //! What follows a conflict, a stuck atom or a set: the literals chosen are learned as a nogood, and the search goes back below the
-//! last of them. A set is written and noted before, and where no literal was chosen, the search is finished.
+//! last of them. A set is shown or passed before, and where no literal was chosen, the search is finished.
 
 ghost use Rattle.std.specs.Prelude.{◌≡◌, ◌≤◌, ◌<◌, ◌+◌, ◌^◌, ◌⊎◌, ℕ, List, Option, Some, None, [], true, false, OnOk, IfErr, IfOk, length, slice_get};
 ghost use Rattle.search_values.specs.Values.{chosen};
 ghost use Rattle.search_theory.specs.States as phase;
 ghost use Rattle.search_state.specs.Searching.{ids};
-ghost use Rattle.search_journals.specs.Standing.{IsKept, IsReady, IsTraceFault, IsRoundFault, Carries, Fits, Given, Stands, Leaves};
+ghost use Rattle.search_journals.specs.Standing.{IsKept, IsReady, IsTraceFault, IsRoundFault};
 ghost use Rattle.search_journals.specs.Moves.{MoveIs, IsHalt};
-ghost use Rattle.search_journals.specs.Settling.{MayStrikeNow, MayLearnNow, IsLearned, struck_by, learned_by, gone_back, Carried, Settled, Rounds, Outcome, IsFound};
+ghost use Rattle.search_journals.specs.Settling.{MayStrikeNow, MayLearnNow, IsLearned, struck_by, learned_by, gone_back, Carried, Settled, Rounds, Outcome, LeavesFrom, IsFound};
 ghost use Rattle.enumerator.specs.Calls.{IsStop, IsEndBy};
 
+use crate::showing::find;
 use crate::steps::noted;
-use alpha_outside::{Event, How, List, NogoodId, Sink, SinkStop, Trace};
+use after_book::AfterBook;
+use alpha_outside::{Event, How, List, NogoodId, Sink, Trace};
 use search_journals::{Finish, Move, SearchFault};
 use search_state::{Search, Stage};
 use std::alloc::Global;
@@ -119,41 +121,6 @@ fn is_over(search: &Search) -> bool
     matches!(search.stage(), Stage::Over)
 }
 
-// Writes the line of the set found, and notes the set.
-fn show<O: Sink, T: Trace>(
-    search: &mut Search,
-    out: &mut O,
-    trace: &mut T,
-) -> Result<(), SearchFault>
-    requires ready { IsReady search.old }
-    requires full { MoveIs search.old Move.Full }
-    ensures out_later { O.faults out.old ≤ O.faults out.new }
-    ensures later { T.faults trace.old ≤ T.faults trace.new }
-    ensures shown { OnOk result (search.new ≡ record search.old { phase = phase.Found }) }
-    ensures carries { OnOk result
-        ((left rest : ℕ) → Carries search.old search.new (T.journal trace.old) (T.journal trace.new) (O.held out.old) (O.held out.new)
-        (left + 1, rest) (left, rest)) }
-    ensures err { IfErr result
-        (λ f. (g : Given) → Fits g search.old → (left rest : ℕ) → 0 < left → Stands g search.old (T.journal trace.old)
-        (O.held out.old) left rest
-        → Leaves g (T.journal trace.new) (O.held out.new) (O.faults out.old, O.faults out.new) (T.faults trace.old, T.faults trace.new) f) }
-{
-    let Ok(ids) = search.true_atoms() else {
-        return Err(SearchFault::OutOfMemory);
-    };
-    let Ok(line) = search.set_line(ids.as_slice()) else {
-        return Err(SearchFault::OutOfMemory);
-    };
-    match out.write(line.as_slice()) {
-        Ok(()) => (),
-        Err(SinkStop::Failed) => return Err(SearchFault::WriteFault),
-        Err(SinkStop::OutOfMemory) => return Err(SearchFault::OutOfMemory),
-    }
-    search.show();
-    let atoms = List::from_vec(ids);
-    noted(trace, &Event::Shown { atoms })
-}
-
 // After the literals chosen were learned: their nogood is struck where it has to be, and the search goes back.
 fn go_back<T: Trace>(
     search: &mut Search,
@@ -226,8 +193,8 @@ fn settle_stuck<T: Trace>(
     go_back(search, trace, rest)
 }
 
-// After a set was shown, where `left` more may be.
-fn settle_shown<T: Trace>(
+// After a set was found, where `left` more may be shown.
+fn settle_found<T: Trace>(
     search: &mut Search,
     alloc: Global,
     trace: &mut T,
@@ -236,8 +203,8 @@ fn settle_shown<T: Trace>(
     requires found { IsFound search.old }
     ensures later { T.faults trace.old ≤ T.faults trace.new }
     ensures ok { IfOk result
-        (λ end. (held : Option (List ℕ)) → (rest : ℕ) → Outcome search.old search.new (T.journal trace.old) (T.journal trace.new) held held
-        (left, rest) (left, rest) end) }
+        (λ end. (book : List (List ℕ)) → (held : Option (List ℕ)) → (rest : ℕ) → Outcome book search.old search.new (T.journal trace.old)
+        (T.journal trace.new) held held (left, rest) (left, rest) end) }
     ensures err { IfErr result
         (λ f. (0 < left) × ((rest : ℕ) → IsRoundFault search.old (T.journal trace.old) (T.journal trace.new) rest (T.faults trace.old)
         (T.faults trace.new) f)) }
@@ -255,11 +222,13 @@ fn settle_shown<T: Trace>(
     back(search, trace)
 }
 
-/// Learns the literals chosen after what was found, and goes back below the last of them, or ends the search.
+/// Learns the literals chosen after what was found, and goes back below the last of them, or ends the search. A set that is found is shown
+/// before, or passed where its line is in the book; `left` is how many more may be shown, and `rest` how many nogoods struck.
 pub fn settle<O: Sink, T: Trace>(
     search: &mut Search,
     alloc: Global,
     found: Move,
+    book: &AfterBook,
     out: &mut O,
     trace: &mut T,
     left: &mut u64,
@@ -273,19 +242,18 @@ pub fn settle<O: Sink, T: Trace>(
     ensures later { T.faults trace.old ≤ T.faults trace.new }
     ensures fewer { left.new ≤ left.old }
     ensures ok { IfOk result
-        (Outcome search.old search.new (T.journal trace.old) (T.journal trace.new) (O.held out.old) (O.held out.new) (left.old, rest.old)
-        (left.new, rest.new)) }
+        (Outcome book.now search.old search.new (T.journal trace.old) (T.journal trace.new) (O.held out.old) (O.held out.new)
+        (left.old, rest.old) (left.new, rest.new)) }
     ensures err { IfErr result
-        (λ f. (g : Given) → Fits g search.old → Stands g search.old (T.journal trace.old) (O.held out.old) left.old rest.old
-        → Leaves g (T.journal trace.new) (O.held out.new) (O.faults out.old, O.faults out.new) (T.faults trace.old, T.faults trace.new) f) }
+        (LeavesFrom book.now search.old (T.journal trace.old) (T.journal trace.new) (O.held out.old) (O.held out.new) (left.old, rest.old)
+        (O.faults out.old, O.faults out.new) (T.faults trace.old, T.faults trace.new)) }
 {
     match found {
         Move::Strike(nogood) => settle_struck(search, alloc, trace, nogood, rest),
         Move::Stuck => settle_stuck(search, alloc, trace, rest),
         Move::Full => {
-            show(search, out, trace)?;
-            *left -= 1;
-            settle_shown(search, alloc, trace, *left)
+            find(search, book, out, trace, left)?;
+            settle_found(search, alloc, trace, *left)
         }
         _ => Ok(Some(end_by_stop(&found))),
     }

@@ -8,6 +8,7 @@ ghost use Rattle.core_rules.specs.Variables.{has_arithmetic, variables, atom_var
 ghost use Rattle.search_rules.specs.Stage.{IsSearchable};
 
 use crate::{End, SearchFault, Settings, search};
+use after_book::AfterBook;
 use alpha_outside::{Event, How, List, MemSink, MemTrace, Name, OutOfMemory, Pred, RuleKind};
 use core_rules::{Core, CoreAtom, CoreRule, CoreTerm};
 use std::alloc::Global;
@@ -250,7 +251,8 @@ fn searched(alloc: Global, case: &Case<'_>) -> Result<String, Fail>
     let core = core(alloc, case.lines)?;
     let mut out = MemSink::new(alloc, List::from_slice(alloc, case.failing)?, case.cut);
     let mut trace = MemTrace::new(alloc, List::from_slice(alloc, case.untraced)?);
-    let answer = search(alloc, core, settings, &mut out, &mut trace);
+    let book = AfterBook::new(alloc);
+    let answer = search(alloc, core, settings, &book, &mut out, &mut trace);
     let bytes = std::str::from_utf8(out.bytes()).unwrap_or("no text");
     let sets = shown(trace.events());
     Ok(format!(in alloc; "{} {}|{bytes}|{sets}", word(&answer), printed(&answer))?)
@@ -452,8 +454,41 @@ fn what_no_rule_gives_needs_no_choice(rt: HostRuntime) -> Result<(), Fail> {
     };
     let mut out = MemSink::new(rt.alloc(), List::new(rt.alloc()), 0);
     let mut trace = MemTrace::new(rt.alloc(), List::new(rt.alloc()));
-    let answer = search(rt.alloc(), core, settings, &mut out, &mut trace);
+    let book = AfterBook::new(rt.alloc());
+    let answer = search(rt.alloc(), core, settings, &book, &mut out, &mut trace);
     assert_eq!(rt; word(&answer), "finished");
     assert_eq!(rt; justified(trace.events()), 1);
+    Ok(())
+}
+
+// How many sets the trace was told of that are listed.
+fn passed(events: &[Event]) -> usize {
+    events
+        .iter()
+        .filter(|event| matches!(event, Event::Passed { .. }))
+        .count()
+}
+
+// Whether of two sets the one that is listed is passed, and the other written.
+fn passes_a_listed_set(alloc: Global) -> Result<bool, Fail> {
+    let Ok(book) = AfterBook::read(alloc, b"{ a }\n") else {
+        return Ok(false);
+    };
+    let core = core(alloc, &EACH_BLOCKS_THE_OTHER)?;
+    let settings = Settings {
+        limit: 2,
+        conflicts: 5,
+        instances: 5,
+    };
+    let mut out = MemSink::new(alloc, List::new(alloc), 0);
+    let mut trace = MemTrace::new(alloc, List::new(alloc));
+    let answer = search(alloc, core, settings, &book, &mut out, &mut trace);
+    let written = out.bytes() == b"{b}\n".as_slice();
+    Ok(written && printed(&answer) == 1 && passed(trace.events()) == 1)
+}
+
+#[test]
+fn a_listed_set_is_passed(rt: HostRuntime) -> Result<(), Fail> {
+    assert!(rt; passes_a_listed_set(rt.alloc())?);
     Ok(())
 }

@@ -7,9 +7,9 @@ use Rattle.core_rules.specs.declared.rules.Core.{Core}
 use Rattle.search_rules.specs.Stage.{IsSearchable}
 use Rattle.search_state.specs.Searching.{Searching, fresh}
 use Rattle.search_journals.specs.Search.{SinkChange, TraceChange, SearchAnswer}
-use Rattle.search_journals.specs.Standing.{Given, given_for, Fits, Stands, Carries, Leaves, IsTraceFault}
+use Rattle.search_journals.specs.Standing.{Given, Listed, given_for, Fits, Stands, Carries, Leaves, IsTraceFault}
 use Rattle.search_journals.specs.Settling.{StandsSomewhere, EndsFrom, LeavesFrom, ended}
-use Rattle.search_journals.specs.declared.ends.Settings.{Settings}
+use Rattle.search_settings.specs.declared.Settings.{Settings}
 use Rattle.search_journals.specs.declared.ends.SearchFault.{SearchFault}
 use Rattle.search_journals.specs.declared.ends.SearchFault.TheVariants.{OutOfMemory}
 use Rattle.search_journals.specs.declared.ends.Finish.{Finish}
@@ -19,16 +19,16 @@ use Rattle.search_journals.proofs.Ending.{leaves_fault}
 use Rattle.search_journals.proofs.Rounding.{leaves_later}
 use Rattle.search_journals.proofs.Answering.{end_answers, fault_answers}
 
-module _ (core : Core) (searchable : IsSearchable core) (settings : Settings) (some : 0 < settings.limit) (sink : SinkChange)
+module _ (core : Core) (searchable : IsSearchable core) (lists : Listed) (settings : Settings) (some : 0 < settings.limit) (sink : SinkChange)
     (trace : TraceChange) where
   -- what the search was given
   abbrev given : Given
-  given = given_for core trace.told sink.held settings
+  given = given_for core lists trace.told sink.held settings
 
   -- where there is no memory for a search, nothing is written or told
-  pub nothing_answers : sink.held' ≡ sink.held → trace.told' ≡ trace.told → SearchAnswer core settings sink trace (Err OutOfMemory)
+  pub nothing_answers : sink.held' ≡ sink.held → trace.told' ≡ trace.told → SearchAnswer core lists.sets settings sink trace (Err OutOfMemory)
   nothing_answers kept same =
-      fault_answers core searchable settings sink trace OutOfMemory
+      fault_answers core searchable lists settings sink trace OutOfMemory
       (subst (λ held. Leaves given trace.told' held (sink.faults, sink.faults') (trace.faults, trace.faults') OutOfMemory) (sym kept)
       (inl (halts_at given (fresh core [] settings.instances) trace.told trace.told' sink.held settings.limit settings.conflicts
       refl same some (stands_fresh given []))))
@@ -45,9 +45,9 @@ module _ (core : Core) (searchable : IsSearchable core) (settings : Settings) (s
 
     -- a fault before any set is written
     pub first_fault : sink.held' ≡ sink.held → (fault : SearchFault)
-        → IsTraceFault v trace.told trace.told' trace.faults trace.faults' fault → SearchAnswer core settings sink trace (Err fault)
+        → IsTraceFault v trace.told trace.told' trace.faults trace.faults' fault → SearchAnswer core lists.sets settings sink trace (Err fault)
     first_fault kept fault f =
-        fault_answers core searchable settings sink trace fault
+        fault_answers core searchable lists settings sink trace fault
         (subst (λ held. Leaves given trace.told' held (sink.faults, sink.faults') (trace.faults, trace.faults') fault) (sym kept)
         (leaves_fault v trace.told trace.told' settings.conflicts trace.faults trace.faults' (sink.faults, sink.faults') fault
         (round_fault v trace.told trace.told' settings.conflicts trace.faults trace.faults' fault f) given fits_fresh sink.held settings.limit some
@@ -65,21 +65,21 @@ module _ (core : Core) (searchable : IsSearchable core) (settings : Settings) (s
       begun_stands = carries given fits_fresh stands_here
 
       -- so it stands somewhere
-      pub stands_first : StandsSomewhere v' told sink.held settings.limit settings.conflicts
-      stands_first = record { given = given; fits = begun_fits; stands = begun_stands }
+      pub stands_first : StandsSomewhere lists.book v' told sink.held settings.limit settings.conflicts
+      stands_first = record { given = given; fits = begun_fits; lists = refl; stands = begun_stands }
 
       -- where it ends by itself from there it answers as it promises
-      pub ends_first : (left rest : ℕ) (how : Finish) → EndsFrom v' told trace.told' sink.held sink.held'
+      pub ends_first : (left rest : ℕ) (how : Finish) → EndsFrom lists.book v' told trace.told' sink.held sink.held'
           (settings.limit, settings.conflicts) (left, rest) how → (printed : ℕ) → printed + left ≡ settings.limit
-          → SearchAnswer core settings sink trace (Ok (ended how printed))
-      ends_first left rest how ends printed all = end_answers core searchable settings sink trace left rest how
-          (ends given begun_fits begun_stands) printed all
+          → SearchAnswer core lists.sets settings sink trace (Ok (ended how printed))
+      ends_first left rest how ends printed all = end_answers core searchable lists settings sink trace left rest how
+          (ends given begun_fits refl begun_stands) printed all
 
       -- and where it ends by a fault
       pub leaves_first : (mid : ℕ) (fault : SearchFault) → trace.faults ≤ mid
-          → LeavesFrom v' told trace.told' sink.held sink.held' (settings.limit, settings.conflicts) (sink.faults, sink.faults')
-          (mid, trace.faults') fault → SearchAnswer core settings sink trace (Err fault)
+          → LeavesFrom lists.book v' told trace.told' sink.held sink.held' (settings.limit, settings.conflicts) (sink.faults, sink.faults')
+          (mid, trace.faults') fault → SearchAnswer core lists.sets settings sink trace (Err fault)
       leaves_first mid fault later leaves =
-          fault_answers core searchable settings sink trace fault
+          fault_answers core searchable lists settings sink trace fault
           (leaves_later given trace.told' sink.held' sink.faults sink.faults sink.faults' trace.faults mid trace.faults' fault
-          (omega arith) later (leaves given begun_fits begun_stands))
+          (omega arith) later (leaves given begun_fits refl begun_stands))

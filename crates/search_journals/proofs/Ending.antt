@@ -20,7 +20,7 @@ use Rattle.search_rules.specs.Rules.{Reached, search_rules}
 use Rattle.search_rules.specs.Faults.{IsOverflow, IsTooLarge}
 use Rattle.search_journals.specs.Journals.{Step, makes, SomeStruck, IsSomeDue}
 use Rattle.search_journals.specs.Standing as standing
-use Rattle.search_journals.specs.Standing.{Stands, StandsAt, Fits, Carries, Ends, EndsBy, IsReady, IsKept, IsGrounded, IsRoundFault, Leaves}
+use Rattle.search_journals.specs.Standing.{Stands, StandsAt, Fits, Carries, CarriesOver, Ends, EndsBy, IsReady, IsKept, IsGrounded, IsRoundFault, Leaves}
 use Rattle.search_journals.specs.Moves.{MoveIs}
 use Rattle.search_journals.specs.declared.moves.Move.TheVariants as move
 use Rattle.search_journals.specs.declared.ends.SearchFault.{SearchFault}
@@ -318,13 +318,13 @@ rounds_settled (Err f) v v1 v2 v3 told told2 told3 rest rest2 rest3 core stack n
 pub outcome_back : (r : Result (Option Finish) SearchFault) (v v2 v3 : Searching) (told told2 told3 : Option outside.Journal) (left : ℕ)
     → v2 ≡ learned_by v → NoneEmpty v.nogoods → IsKept v → ids v < 2 ^ 32 → ¬ (chosen v.stack ≡ []) → ¬ (left ≡ 0)
     → Carried v v2 told told2 0 → IfOk r (λ end. end ≡ None) → OnOk r (v3 ≡ gone_back v2) → OnOk r (Carried v2 v3 told2 told3 0)
-    → IfOk r (λ end. (held : Option (List ℕ)) (rest : ℕ) → Outcome v v3 told told3 held held (left, rest) (left, rest) end)
+    → IfOk r (λ end. (book : List (List ℕ)) (held : Option (List ℕ)) (rest : ℕ) → Outcome book v v3 told told3 held held (left, rest) (left, rest) end)
 outcome_back (Ok end) v v2 v3 told told2 told3 left learned firm kept few some room carried none back carried' =
-    subst (λ end. (held : Option (List ℕ)) (rest : ℕ) → Outcome v v3 told told3 held held (left, rest) (left, rest) end) (sym none)
-    (λ held rest. (
+    subst (λ end. (book : List (List ℕ)) (held : Option (List ℕ)) (rest : ℕ) → Outcome book v v3 told told3 held held (left, rest) (left, rest) end)
+    (sym none) (λ book held rest. (
       again v v v2 v3 refl refl refl learned back some firm kept few,
       omega (arith, room),
-      λ g fits s. carried_same v2 v3 told2 told3 held left rest carried' g (ap (λ (z : Searching). z.core) learned ∙ fits)
+      λ g fits lists s. carried_same v2 v3 told2 told3 held left rest carried' g (ap (λ (z : Searching). z.core) learned ∙ fits)
           (carried_same v v2 told told2 held left rest carried g fits s),
     ))
 outcome_back (Err f) v v2 v3 told told2 told3 left learned firm kept few some room carried none back carried' = tt
@@ -355,40 +355,34 @@ leaves_fault v told told' rest before now sink WriteFault f g fits held left roo
 leaves_fault v told told' rest before now sink TraceFault f g fits held left room s = (f.cause, inl (f.halts g fits held left room s))
 leaves_fault v told told' rest before now sink OutOfMemory f g fits held left room s = inl (f.halts g fits held left room s)
 
-module _ (v v1 : Searching) (told told1 : Option outside.Journal) (held held1 : Option (List ℕ))
+-- the search goes on after a set of which it has `left` before, and `less` after
+module _ (book : List (List ℕ)) (v v1 : Searching) (told told1 : Option outside.Journal) (held held1 : Option (List ℕ)) (left less : ℕ)
     (is : (let w : Searching = record v { phase = phase.Found } in v1 ≡ w))
-    (carries : (left rest : ℕ) → Carries v v1 told told1 held held1 (left + 1, rest) (left, rest)) where
-  -- one set less is left
-  shown_less : (left rest : ℕ) → 0 < left → (g : standing.Given) → Fits g v → Stands g v told held left rest
-      → Stands g v1 told1 held1 (left - 1) rest
-  shown_less left rest room g fits s =
-      let same : left - 1 + 1 ≡ left = omega (arith, room) in
-      carries (left - 1) rest g fits (subst (λ z. Stands g v told held z rest) (sym same) s)
-
-  -- a set was shown, and the round went on
-  pub shown_outcome : (r : Result (Option Finish) SearchFault) (v' : Searching) (told' : Option outside.Journal) (left rest : ℕ) → 0 < left
-      → IfOk r (λ end. (held : Option (List ℕ)) (rest : ℕ) → Outcome v1 v' told1 told' held held (left - 1, rest) (left - 1, rest) end)
-      → IfOk r (Outcome v v' told told' held held1 (left, rest) (left - 1, rest))
-  shown_outcome (Ok None) v' told' left rest room p =
-      let w = p held1 rest in
+    (carries : (rest : ℕ) → CarriesOver book v v1 told told1 held held1 (left, rest) (less, rest)) where
+  -- a set was found, and the round went on
+  pub found_outcome : (r : Result (Option Finish) SearchFault) (v' : Searching) (told' : Option outside.Journal) (rest : ℕ)
+      → IfOk r (λ end. (book : List (List ℕ)) (held : Option (List ℕ)) (rest : ℕ) → Outcome book v1 v' told1 told' held held (less, rest) (less, rest) end)
+      → IfOk r (Outcome book v v' told told' held held1 (left, rest) (less, rest))
+  found_outcome (Ok None) v' told' rest p =
+      let w = p book held1 rest in
       let a : Again (record v { phase = phase.Found }) v' = subst (λ (z : Searching). Again z v') is w.0 in (
         record { core = a.core; ready = a.ready; learned = a.learned; some = a.some; low = a.low },
         w.1,
-        λ g fits s. w.2 g (ap (λ (z : Searching). z.core) is ∙ fits) (shown_less left rest room g fits s),
+        λ g fits lists s. w.2 g (ap (λ (z : Searching). z.core) is ∙ fits) lists (carries rest g fits lists s),
       )
-  shown_outcome (Ok (Some how)) v' told' left rest room p =
-      λ g fits s. p held1 rest g (ap (λ (z : Searching). z.core) is ∙ fits) (shown_less left rest room g fits s)
-  shown_outcome (Err f) v' told' left rest room p = tt
+  found_outcome (Ok (Some how)) v' told' rest p =
+      λ g fits lists s. p book held1 rest g (ap (λ (z : Searching). z.core) is ∙ fits) lists (carries rest g fits lists s)
+  found_outcome (Err f) v' told' rest p = tt
 
   -- or there was a fault
-  pub shown_fault : (told' : Option outside.Journal) (left rest : ℕ) (before mid now : ℕ) (sink : ℕ × ℕ) (fault : SearchFault) → 0 < left
-      → before ≤ mid → (0 < left - 1) × ((rest : ℕ) → IsRoundFault v1 told1 told' rest mid now fault)
-      → (g : standing.Given) → Fits g v → Stands g v told held left rest → Leaves g told' held1 sink (before, now) fault
-  shown_fault told' left rest before mid now sink fault room later f g fits s =
+  pub found_fault : (told' : Option outside.Journal) (rest : ℕ) (before mid now : ℕ) (sink : ℕ × ℕ) (fault : SearchFault)
+      → before ≤ mid → (0 < less) × ((rest : ℕ) → IsRoundFault v1 told1 told' rest mid now fault)
+      → (g : standing.Given) → Fits g v → g.lists.book ≡ book → Stands g v told held left rest → Leaves g told' held1 sink (before, now) fault
+  found_fault told' rest before mid now sink fault later f g fits lists s =
       let h = f.1 rest in
       leaves_fault v1 told1 told' rest before now sink fault
       (record { halts = h.halts; cause = cause_on before mid now fault later h.cause }) g
-      (ap (λ (z : Searching). z.core) is ∙ fits) held1 (left - 1) f.0 (shown_less left rest room g fits s)
+      (ap (λ (z : Searching). z.core) is ∙ fits) held1 less f.0 (carries rest g fits lists s)
 
   -- the search has found a set
   pub is_found : IsReady v → MoveIs v move.Full → IsFound v1

@@ -93,7 +93,7 @@ runs_justified v v' told told' x n p ready next pattern is number t =
           (∈-append_left ng v.nogoods (record { lits = justified_lits x; head = None } ∷ []) i);
       carries = λ held left rest. event_carries v v' told told' (Justify (u.atom ∷ []) (justified_lits x))
           (say.Learned n Justified (justified_lits x) (p ∷ [])) held left rest rest tt
-          (λ journal legal at. (may, justified_is_new (search_rules v.core) (state_of v) (u.atom ∷ []) (justified_lits x) may))
+          ((may, justified_is_new (search_rules v.core) (state_of v) (u.atom ∷ []) (justified_lits x) may))
           (number, inr (refl, (u.atom ∷ [], (pattern u.atom u.named, tt), refl)))
           (ap state_of is) t (λ journal. refl) (ap budget is);
     }

@@ -31,7 +31,7 @@ use Rattle.core_meaning.specs.Atoms.{GroundAtom}
 use Rattle.search_rules.specs.Rules.{Reached, search_rules}
 use Rattle.search_journals.specs.Journals.{Step}
 use Rattle.search_journals.specs.Standing as standing
-use Rattle.search_journals.specs.Standing.{StandsAt, Fits, IsReady, unlisted}
+use Rattle.search_journals.specs.Standing.{StandsAt, Fits, IsReady, unlisted, listed}
 use Rattle.search_journals.specs.Moves.{MoveIs}
 use Rattle.search_journals.specs.declared.moves.Move.TheVariants as move
 use Rattle.search_journals.specs.Settling.{MayStrikeNow, MayLearnNow, struck_by, learned_by, gone_back, Carried}
@@ -53,12 +53,12 @@ pub record Told (core : Core) (s : Reached) : Type 0 where
 pub told_at : (g : standing.Given) (v : Searching) (told : Option outside.Journal) (held : Option (List ℕ)) (left rest : ℕ)
     (journal : List Step) → StandsAt g v told held left rest journal → Told g.core (replay (search_rules g.core) journal)
 told_at g v told held left rest journal at =
-    let newly = legal_newly (search_rules g.core) [] journal at.legal in
+    let newly = legal_newly (search_rules g.core) (listed g) journal at.legal in
     record {
-      valid = (legal_safe (search_rules g.core) [] journal at.legal).valid;
+      valid = (legal_safe (search_rules g.core) (listed g) journal at.legal).valid;
       bodies = newly.0;
       newly = newly.1;
-      leads = legal_leads (search_rules g.core) [] journal at.legal;
+      leads = legal_leads (search_rules g.core) (listed g) journal at.legal;
     }
 
 module _ (core : Core) (s : Reached) (known : Told core s) where
@@ -164,7 +164,7 @@ module _ (g : standing.Given) (v : Searching) (told : Option outside.Journal) (h
       subst (λ (s : Reached). NoneEmpty s.nogoods) at.is (firm how may) in (
         learn,
         subst (λ (s : Reached). IsNew s.nogoods (chosen s.stack)) (sym at.is)
-            (learned_is_new (search_rules g.core) [] journal at.legal some how
+            (learned_is_new (search_rules g.core) (listed g) journal at.legal some how
             (chosen (State.stack (replay (search_rules g.core) journal)))
             (on how (subst (λ (s : Reached). MayLearn (search_rules g.core) s how (chosen s.stack)) at.is learn))),
       )
@@ -194,7 +194,7 @@ module _ (g : standing.Given) (v : Searching) (told : Option outside.Journal) (h
       since : (x : ℕ) (a : GroundAtom) → IsName (state_of v) x a → value_of v.stack x ≡ Some MustBe → HasClosed v.stack
           → MustSinceClosed v.stack x
       since x a name must closed = subst (λ (s : Reached). MustSinceClosed s.stack x) (sym at.is)
-          (must_be_is_since_closed (search_rules g.core) [] journal at.legal x a
+          (must_be_is_since_closed (search_rules g.core) (listed g) journal at.legal x a
           (subst (λ (s : Reached). IsName s x a) at.is name)
           (subst (λ (s : Reached). value_of s.stack x ≡ Some MustBe) at.is must)
           (subst (λ (s : Reached). HasClosed s.stack) at.is closed))

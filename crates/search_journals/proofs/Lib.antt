@@ -9,6 +9,7 @@ pub mod Empty
 pub mod ToldAll
 pub mod Measuring
 pub mod Lines
+pub mod Listing
 pub mod Readying
 pub mod Allowing
 pub mod Learning

@@ -26,7 +26,7 @@ use Rattle.search_rules.proofs.CoreSets.{found_are_core_sets}
 use Rattle.search_rules.proofs.Readable.{found_atoms_are_readable}
 use Rattle.search_rules.proofs.UserAtoms.{found_are_listed, user_same}
 use Rattle.search_journals.specs.Journals.{IsLineOfIds, AreLinesOf}
-use Rattle.search_journals.specs.Search.{IsCoreSetLine}
+use Rattle.search_journals.specs.Search.{IsCoreSetLine, IsAmong}
 
 -- ---- lists turned
 
@@ -118,12 +118,12 @@ pub record IsSetWithLine (core : Core) (r : Reached) (ids line : List ℕ) : Typ
   pub line_is : IsSetLine atoms line
 
 -- a named atom is no other
-named_same : (a b : GroundAtom) → (let m : AtomNode GroundAtom = Named a in let n : AtomNode GroundAtom = Named b in Some m ≡ Some n)
+pub named_same : (a b : GroundAtom) → (let m : AtomNode GroundAtom = Named a in let n : AtomNode GroundAtom = Named b in Some m ≡ Some n)
     → a ≡ b
 named_same a b e = cc
 
 -- an atom of the program among such atoms
-user_among : (atoms : List Atom) (a : Atom) → User a ∈ map User atoms → a ∈ atoms
+pub user_among : (atoms : List Atom) (a : Atom) → User a ∈ map User atoms → a ∈ atoms
 user_among atoms a i = let w = ∈-map_from User (User a) atoms i in subst (λ z. z ∈ atoms) (sym (user_same a w.0 w.2)) w.1
 
 -- the atoms that the ids of a set name are its atoms of the program
@@ -142,21 +142,24 @@ ids_tell core r c ids atoms users names a = (
 
 module _ (core : Core) (searchable : IsSearchable core) (r : Reached) where
   -- the atoms of the set can be read back
-  readable : (ids line : List ℕ) → (h : IsSetWithLine core r ids line) → Each IsReadable h.atoms
+  pub readable : (ids line : List ℕ) → (h : IsSetWithLine core r ids line) → Each IsReadable h.atoms
   readable ids line h = Each-from IsReadable h.atoms (λ a i. found_atoms_are_readable core h.set (searchable) h.answers a ((h.users a).1 i))
 
-  -- the line is that of a core answer set
-  pub core_line : (ids line : List ℕ) → IsSetWithLine core r ids line → IsCoreSetLine core line
-  core_line ids line h =
-      let listed = found_are_listed core h.set (searchable.form, searchable.no_aggregates) h.answers in
+  -- the line is that of a core answer set, which isn't listed where its atoms aren't those of a set that is
+  pub core_line : (A : List (List Atom)) (ids line : List ℕ) (h : IsSetWithLine core r ids line)
+      → ((I : List Atom) → SameSet I h.atoms → ¬ IsAmong A I) → IsCoreSetLine core A line
+  core_line A ids line h none =
+      let found = found_are_listed core h.set (searchable.form, searchable.no_aggregates) h.answers in
+      let same : SameSet found.0 h.atoms = record {
+        to = λ a i. (h.users a).0 ((found.2 a).1 i);
+        back = λ a i. (found.2 a).0 ((h.users a).1 i);
+      } in
       record {
-        set = listed.0;
-        once = listed.1;
-        has_core_sets = found_are_core_sets core listed.0 h.set (searchable.form, searchable.no_aggregates) h.answers listed.2;
-        is = one_line_for_the_same_set listed.0 h.atoms line (record {
-          to = λ a i. (h.users a).0 ((listed.2 a).1 i);
-          back = λ a i. (listed.2 a).0 ((h.users a).1 i);
-        }) h.line_is;
+        set = found.0;
+        once = found.1;
+        has_core_sets = found_are_core_sets core found.0 h.set (searchable.form, searchable.no_aggregates) h.answers found.2;
+        unlisted = none found.0 same;
+        is = one_line_for_the_same_set found.0 h.atoms line same h.line_is;
       }
 
   -- it is one whole line

@@ -15,7 +15,7 @@ use Rattle.search_rules.specs.Rules.{Reached, search_rules}
 use Rattle.search_journals.specs.Measures.{id_count, candidates, still_open}
 use Rattle.search_journals.specs.Runs.{Runs}
 use Rattle.search_journals.specs.Standing as standing
-use Rattle.search_journals.specs.Standing.{Carries, Leaves}
+use Rattle.search_journals.specs.Standing.{Carries, CarriesOver, Leaves}
 use Rattle.search_journals.specs.Settling.{Again, StandsSomewhere, EndsFrom, LeavesFrom}
 use Rattle.search_journals.specs.declared.ends.SearchFault.{SearchFault}
 use Rattle.search_journals.specs.declared.ends.SearchFault.TheVariants.{WriteFault, TraceFault, OutOfMemory}
@@ -40,9 +40,9 @@ holds_once stack x h k =
     cc
 
 -- a round leaves less to learn
-pub round_falls : (v v1 v2 : Searching) (told told1 : Option outside.Journal) (held : Option (List ℕ)) (left rest : ℕ)
-    → StandsSomewhere v told held left rest → Runs v v1 told told1 → Again v1 v2 → still_open v2.nogoods < still_open v.nogoods
-round_falls v v1 v2 told told1 held left rest somewhere runs again =
+pub round_falls : (book : List (List ℕ)) (v v1 v2 : Searching) (told told1 : Option outside.Journal) (held : Option (List ℕ)) (left rest : ℕ)
+    → StandsSomewhere book v told held left rest → Runs v v1 told told1 → Again v1 v2 → still_open v2.nogoods < still_open v.nogoods
+round_falls book v v1 v2 told told1 held left rest somewhere runs again =
     let g = somewhere.given in
     let s = runs.carries held left rest g somewhere.fits somewhere.stands in
     let known = told_at g v1 told1 held left rest s.0 s.1 in
@@ -61,23 +61,30 @@ round_falls v v1 v2 told told1 held left rest somewhere runs again =
 -- ---- what rounds carry on
 
 -- a round more
-pub carries_on : (v v1 v2 : Searching) (told told1 told2 : Option outside.Journal) (held held1 held2 : Option (List ℕ)) (a b c : ℕ × ℕ)
-    → v1.core ≡ v.core
-    → Carries v v1 told told1 held held1 a b → Carries v1 v2 told1 told2 held1 held2 b c → Carries v v2 told told2 held held2 a c
-carries_on v v1 v2 told told1 told2 held held1 held2 a b c core first next g fits s = next g (core ∙ fits) (first g fits s)
+pub carries_on : (book : List (List ℕ)) (v v1 v2 : Searching) (told told1 told2 : Option outside.Journal) (held held1 held2 : Option (List ℕ))
+    (a b c : ℕ × ℕ) → v1.core ≡ v.core → CarriesOver book v v1 told told1 held held1 a b → CarriesOver book v1 v2 told1 told2 held1 held2 b c
+    → CarriesOver book v v2 told told2 held held2 a c
+carries_on book v v1 v2 told told1 told2 held held1 held2 a b c core first next g fits lists s =
+    next g (core ∙ fits) lists (first g fits lists s)
+
+-- what carries a search on whatever is listed does so where these are
+pub carries_over : (book : List (List ℕ)) (v v1 : Searching) (told told1 : Option outside.Journal) (held held1 : Option (List ℕ)) (a b : ℕ × ℕ)
+    → Carries v v1 told told1 held held1 a b → CarriesOver book v v1 told told1 held held1 a b
+carries_over book v v1 told told1 held held1 a b carries g fits lists s = carries g fits s
 
 -- the search still stands
-pub stands_still : (v v1 : Searching) (told told1 : Option outside.Journal) (held held1 : Option (List ℕ)) (left rest left1 rest1 : ℕ)
-    → v1.core ≡ v.core → Carries v v1 told told1 held held1 (left, rest) (left1, rest1)
-    → StandsSomewhere v told held left rest → StandsSomewhere v1 told1 held1 left1 rest1
-stands_still v v1 told told1 held held1 left rest left1 rest1 core carries s =
-    record { given = s.given; fits = core ∙ s.fits; stands = carries s.given s.fits s.stands }
+pub stands_still : (book : List (List ℕ)) (v v1 : Searching) (told told1 : Option outside.Journal) (held held1 : Option (List ℕ))
+    (left rest left1 rest1 : ℕ) → v1.core ≡ v.core → CarriesOver book v v1 told told1 held held1 (left, rest) (left1, rest1)
+    → StandsSomewhere book v told held left rest → StandsSomewhere book v1 told1 held1 left1 rest1
+stands_still book v v1 told told1 held held1 left rest left1 rest1 core carries s =
+    record { given = s.given; fits = core ∙ s.fits; lists = s.lists; stands = carries s.given s.fits s.lists s.stands }
 
 -- the last round ends the search
-pub ends_on : (v v1 : Searching) (told told1 told2 : Option outside.Journal) (held held1 held2 : Option (List ℕ)) (a b c : ℕ × ℕ)
-    (how : Finish) → v1.core ≡ v.core → Carries v v1 told told1 held held1 a b
-    → EndsFrom v1 told1 told2 held1 held2 b c how → EndsFrom v told told2 held held2 a c how
-ends_on v v1 told told1 told2 held held1 held2 a b c how core carries ends g fits s = ends g (core ∙ fits) (carries g fits s)
+pub ends_on : (book : List (List ℕ)) (v v1 : Searching) (told told1 told2 : Option outside.Journal) (held held1 held2 : Option (List ℕ)) (a b c : ℕ × ℕ)
+    (how : Finish) → v1.core ≡ v.core → CarriesOver book v v1 told told1 held held1 a b
+    → EndsFrom book v1 told1 told2 held1 held2 b c how → EndsFrom book v told told2 held held2 a c how
+ends_on book v v1 told told1 told2 held held1 held2 a b c how core carries ends g fits lists s =
+    ends g (core ∙ fits) lists (carries g fits lists s)
 
 -- a count that rose later rose since before
 pub leaves_later : (g : standing.Given) (told : Option outside.Journal) (held : Option (List ℕ)) (o m n t k l : ℕ) (fault : SearchFault)
@@ -87,8 +94,8 @@ leaves_later g told held o m n t k l TraceFault first second w = (rose_on t k l 
 leaves_later g told held o m n t k l OutOfMemory first second w = w
 
 -- or it ends by a fault
-pub leaves_on : (v v1 : Searching) (told told1 told2 : Option outside.Journal) (held held1 held2 : Option (List ℕ)) (a b : ℕ × ℕ)
-    (o m n t k l : ℕ) (fault : SearchFault) → v1.core ≡ v.core → Carries v v1 told told1 held held1 a b → o ≤ m → t ≤ k
-    → LeavesFrom v1 told1 told2 held1 held2 b (m, n) (k, l) fault → LeavesFrom v told told2 held held2 a (o, n) (t, l) fault
-leaves_on v v1 told told1 told2 held held1 held2 a b o m n t k l fault core carries first second leaves g fits s =
-    leaves_later g told2 held2 o m n t k l fault first second (leaves g (core ∙ fits) (carries g fits s))
+pub leaves_on : (book : List (List ℕ)) (v v1 : Searching) (told told1 told2 : Option outside.Journal) (held held1 held2 : Option (List ℕ)) (a b : ℕ × ℕ)
+    (o m n t k l : ℕ) (fault : SearchFault) → v1.core ≡ v.core → CarriesOver book v v1 told told1 held held1 a b → o ≤ m → t ≤ k
+    → LeavesFrom book v1 told1 told2 held1 held2 b (m, n) (k, l) fault → LeavesFrom book v told told2 held held2 a (o, n) (t, l) fault
+leaves_on book v v1 told told1 told2 held held1 held2 a b o m n t k l fault core carries first second leaves g fits lists s =
+    leaves_later g told2 held2 o m n t k l fault first second (leaves g (core ∙ fits) lists (carries g fits lists s))

@@ -4,7 +4,7 @@ use Rattle.std.specs.Prelude.{Option, Some, None, slice_get, option_map, Err}
 use Rattle.std.specs.Io.KnownBytes.{Appends, Keeps}
 use Rattle.std.proofs.Math.Seq.{take-length}
 use Rattle.std.proofs.lemmas.Option.{slice_get-get_or}
-use Rattle.lists.specs.Lists.{concat}
+use Rattle.lists.specs.Lists.{◌∈◌, concat}
 use Rattle.asp_meaning.specs.Lines.{IsSetLine}
 use Rattle.alpha_outside.specs.declared.literal.Value.TheVariants.{MustBe}
 use Rattle.alpha_outside.specs.declared.event.Event.TheVariants as say
@@ -17,8 +17,8 @@ use Rattle.search_values.specs.Instances.{Constraint}
 use Rattle.search_values.specs.Tables.{Made}
 use Rattle.search_theory.specs.States as phase
 use Rattle.search_values.specs.Ids.{BodyOf, Names}
-use Rattle.search_theory.specs.States.{State, IsName, IsSettled, IsFull, AreTrueUserAtoms}
-use Rattle.search_theory.specs.Events.{Show, Allowed}
+use Rattle.search_theory.specs.States.{State, IsName, IsSettled, IsFull, AreTrueUserAtoms, IsSetOf}
+use Rattle.search_theory.specs.Events.{Show, Pass, Allowed}
 use Rattle.search_theory.specs.Journals.{replay}
 use Rattle.search_theory.proofs.Events.{legal_safe}
 use Rattle.search_theory.proofs.BodyNames.{legal_body_names}
@@ -33,7 +33,7 @@ use Rattle.search_state.specs.Searching.{Searching, made, state_of}
 use Rattle.search_state.specs.Moves.{AreTrueIds}
 use Rattle.search_journals.specs.Journals.{Step, Tells, IsLineOfIds}
 use Rattle.search_journals.specs.Standing as standing
-use Rattle.search_journals.specs.Standing.{Stands, StandsAt, Fits, Carries, HaltsWithin, HaltsBehind, Leaves, IsReady, IsTraceCause}
+use Rattle.search_journals.specs.Standing.{Stands, StandsAt, Fits, CarriesOver, listed, HaltsWithin, HaltsBehind, Leaves, IsReady, IsTraceCause}
 use Rattle.search_journals.specs.Moves.{MoveIs}
 use Rattle.search_journals.specs.declared.moves.Move.TheVariants as move
 use Rattle.search_journals.specs.declared.ends.SearchFault.{SearchFault}
@@ -42,7 +42,8 @@ use Rattle.search_journals.proofs.Standing.{budget, lines_stay, inside_at, halts
 use Rattle.search_journals.proofs.ToldAll.{bodies_made}
 use Rattle.search_journals.proofs.Allowing.{settled}
 use Rattle.search_journals.proofs.Unlisted.{atoms_on, settled_on}
-use Rattle.search_journals.proofs.Lines.{turned}
+use Rattle.search_journals.proofs.Lines.{turned, readable}
+use Rattle.search_journals.proofs.Listing.{not_listed, is_listed, full_with_line}
 use Rattle.search_journals.proofs.Telling.{tells_on}
 use Rattle.search_journals.proofs.Filling.{full_of}
 
@@ -72,7 +73,7 @@ module _ (g : standing.Given) (v : Searching) (told : Option outside.Journal) (h
       let no : Made Maker = record { maker = (0, []); inst = record { kind = Constraint; pos = []; neg = [] }; body = None } in
       let there : slice_get (State.made (replay (search_rules g.core) journal)) j ≡ Some (get_or (made v) j no) =
       subst (λ (s : Reached). slice_get s.made j ≡ Some (get_or (made v) j no)) at.is (slice_get-get_or (made v) j no low) in
-      (get_or (made v) j no, there, (legal_body_names (search_rules g.core) [] journal at.legal).are x j (get_or (made v) j no) e there)
+      (get_or (made v) j no, there, (legal_body_names (search_rules g.core) (listed g) journal at.legal).are x j (get_or (made v) j no) e there)
 
   -- the state is settled
   settled_now : IsSettled (search_rules g.core) (replay (search_rules g.core) journal)
@@ -83,7 +84,7 @@ module _ (g : standing.Given) (v : Searching) (told : Option outside.Journal) (h
   -- and full
   pub full_now : IsFull (search_rules g.core) (replay (search_rules g.core) journal)
   full_now = full_of (search_rules g.core) (replay (search_rules g.core) journal)
-      (legal_safe (search_rules g.core) [] journal at.legal).valid settled_now
+      (legal_safe (search_rules g.core) (listed g) journal at.legal).valid settled_now
       (subst (λ (s : Reached). (x : ℕ) (a : GroundAtom) → IsName s x a → ¬ (value_of s.stack x ≡ Some MustBe)) at.is
       (λ x a name. next.2 x (a, name)))
       (subst (λ (s : Reached). (x : ℕ) (a : GroundAtom) → IsName s x a → ¬ (value_of s.stack x ≡ None)) at.is
@@ -101,22 +102,45 @@ module _ (g : standing.Given) (v : Searching) (told : Option outside.Journal) (h
         (subst (λ (s : Reached). AreTrueUserAtoms (search_rules g.core) s xs) at.is
         (subst (λ core. AreTrueUserAtoms (search_rules core) (state_of v) xs) fits (true_atoms v xs are)))
 
-    -- and the set may be shown
-    pub may_show : Allowed (search_rules g.core) [] (replay (search_rules g.core) journal) (Show xs)
-    may_show =
+    -- they name its atoms
+    pub names_now : Names (State.names (replay (search_rules g.core) journal)) xs (map User are.set)
+    names_now = subst (λ (s : Reached). Names s.names xs (map User are.set)) at.is are.names
+
+    -- its line
+    abbrev pub line_now : (line : List ℕ) → IsSetLine are.set line → IsLineOfIds (replay (search_rules g.core) journal) xs line
+    line_now line is = (are.set, names_now, is)
+
+    -- they name no set that is listed, where its line isn't among those
+    pub unlisted_now : (line : List ℕ) → IsSetLine are.set line → ¬ (line ∈ g.lists.book) → (atoms : List GroundAtom) → atoms ∈ listed g
+        → ¬ IsSetOf (replay (search_rules g.core) journal) xs atoms
+    unlisted_now line is out = not_listed (replay (search_rules g.core) journal) xs are.set names_now g.lists line is out
+
+    -- then the set may be shown
+    pub may_show : (line : List ℕ) → IsSetLine are.set line → ¬ (line ∈ g.lists.book)
+        → Allowed (search_rules g.core) (listed g) (replay (search_rules g.core) journal) (Show xs)
+    may_show line is out =
         let searchable = subst IsSearchable fits ready.kept.searchable in (
           free_now,
           full_now,
           atoms_now,
-          (λ atoms i. absurd i),
-          (λ earlier i same. found_is_new (search_rules g.core) [] journal at.legal
+          unlisted_now line is out,
+          (λ earlier i same. found_is_new (search_rules g.core) (listed g) journal at.legal
               (found_are_determined g.core (searchable.form, searchable.no_aggregates)) free_now xs full_now atoms_now earlier
               (inl i) same),
         )
 
-    -- its line
-    pub line_now : (line : List ℕ) → IsSetLine are.set line → IsLineOfIds (replay (search_rules g.core) journal) xs line
-    line_now line is = (are.set, subst (λ (s : Reached). Names s.names xs (map User are.set)) at.is are.names, is)
+    -- and else it may be passed
+    pub may_pass : (line : List ℕ) → IsSetLine are.set line → line ∈ g.lists.book
+        → Allowed (search_rules g.core) (listed g) (replay (search_rules g.core) journal) (Pass xs)
+    may_pass line is among =
+        let searchable = subst IsSearchable fits ready.kept.searchable in
+        let w = full_with_line g.core (listed g) journal at.legal xs full_now atoms_now line (line_now line is) in (
+          free_now,
+          full_now,
+          atoms_now,
+          is_listed (replay (search_rules g.core) journal) xs are.set names_now g.lists line is
+              (readable g.core searchable (replay (search_rules g.core) journal) xs line w) among,
+        )
 
 -- ---- what is written
 
@@ -149,15 +173,18 @@ lines_on held0 held held' lines line p q = subst (λ z. Appends held0 held' z)
 -- ---- the step
 
 -- the set was written, and noted
-pub carries_show : (v v' : Searching) (told told' : Option outside.Journal) (held held' : Option (List ℕ)) (xs line : List ℕ) → IsReady v
-    → MoveIs v move.Full → (are : AreTrueIds v xs)
-    → IsSetLine are.set line → Appends held held' line → (let w : Searching = record v { phase = phase.Found } in v' ≡ w)
+pub carries_show : (book : List (List ℕ)) (v v' : Searching) (told told' : Option outside.Journal) (held held' : Option (List ℕ)) (xs line : List ℕ)
+    → IsReady v → MoveIs v move.Full → (are : AreTrueIds v xs)
+    → IsSetLine are.set line → ¬ (line ∈ book) → Appends held held' line → (let w : Searching = record v { phase = phase.Found } in v' ≡ w)
     → told' ≡ option_map (with_event (say.Shown xs)) told
-    → (left rest : ℕ) → Carries v v' told told' held held' (left + 1, rest) (left, rest)
-carries_show v v' told told' held held' xs line ready next are line_is wrote is t left rest g fits s = (
+    → (left rest : ℕ) → CarriesOver book v v' told told' held held' (left + 1, rest) (left, rest)
+carries_show book v v' told told' held held' xs line ready next are line_is out wrote is t left rest g fits lists s = (
   Show xs ∷ s.0,
   record {
-    legal = (s.1.legal, may_show g v told held (left + 1) rest s.0 fits s.1 ready next xs are);
+    legal = (
+      s.1.legal,
+      may_show g v told held (left + 1) rest s.0 fits s.1 ready next xs are line line_is (subst (λ b. ¬ (line ∈ b)) (sym lists) out),
+    );
     is = ap state_of is ∙ ap (λ (z : Reached). let w : Reached = record z { phase = phase.Found } in w) s.1.is;
     tells = tells_on g.core g.told told told' s.0 (Show xs) (say.Shown xs) s.1.tells refl t;
     hands = record {
@@ -170,6 +197,33 @@ carries_show v v' told told' held held' xs line ready next are line_is wrote is 
       bytes = lines_on g.held held held' s.1.hands.lines line s.1.hands.bytes wrote;
     };
     sets_left = (let k = s.1.sets_left in omega (arith, k));
+    strikes_left = s.1.strikes_left;
+    instances_left = ap budget is ∙ s.1.instances_left;
+  },
+)
+
+-- a set that is listed was noted as passed
+pub carries_pass : (book : List (List ℕ)) (v v' : Searching) (told told' : Option outside.Journal) (held : Option (List ℕ)) (xs line : List ℕ)
+    → IsReady v → MoveIs v move.Full → (are : AreTrueIds v xs)
+    → IsSetLine are.set line → line ∈ book → (let w : Searching = record v { phase = phase.Found } in v' ≡ w)
+    → told' ≡ option_map (with_event (say.Passed xs)) told
+    → (left rest : ℕ) → CarriesOver book v v' told told' held held (left, rest) (left, rest)
+carries_pass book v v' told told' held xs line ready next are line_is among is t left rest g fits lists s = (
+  Pass xs ∷ s.0,
+  record {
+    legal = (
+      s.1.legal,
+      may_pass g v told held left rest s.0 fits s.1 ready next xs are line line_is (subst (λ b. line ∈ b) (sym lists) among),
+    );
+    is = ap state_of is ∙ ap (λ (z : Reached). let w : Reached = record z { phase = phase.Found } in w) s.1.is;
+    tells = tells_on g.core g.told told told' s.0 (Pass xs) (say.Passed xs) s.1.tells refl t;
+    hands = record {
+      lines = s.1.hands.lines;
+      are = lines_stay (replay (search_rules g.core) s.0) (replay (search_rules g.core) (Pass xs ∷ s.0)) (λ x n there. there)
+          (State.shown (replay (search_rules g.core) s.0)) s.1.hands.lines s.1.hands.are;
+      bytes = s.1.hands.bytes;
+    };
+    sets_left = s.1.sets_left;
     strikes_left = s.1.strikes_left;
     instances_left = ap budget is ∙ s.1.instances_left;
   },
@@ -194,13 +248,13 @@ leaves_now v told held held' sink trace g fits left rest kept room s =
       inside = h.inside;
     })
 
-module _ (v : Searching) (told told' : Option outside.Journal) (held held' : Option (List ℕ)) (xs line : List ℕ) (ready : IsReady v)
-    (next : MoveIs v move.Full) (are : AreTrueIds v xs)
-    (line_is : IsSetLine are.set line) where
+module _ (book : List (List ℕ)) (v : Searching) (told told' : Option outside.Journal) (held held' : Option (List ℕ)) (xs line : List ℕ)
+    (ready : IsReady v) (next : MoveIs v move.Full) (are : AreTrueIds v xs)
+    (line_is : IsSetLine are.set line) (out : ¬ (line ∈ book)) where
   -- a front of the line was written, and nothing told
-  abbrev pub halts_within : (g : standing.Given) → Fits g v → (left rest n : ℕ) → told' ≡ told → Appends held held' (take n line)
-      → 0 < left → Stands g v told held left rest → HaltsWithin g told' held'
-  halts_within g fits left rest n same wrote room s = record {
+  abbrev pub halts_within : (g : standing.Given) → Fits g v → g.lists.book ≡ book → (left rest n : ℕ) → told' ≡ told
+      → Appends held held' (take n line) → 0 < left → Stands g v told held left rest → HaltsWithin g told' held'
+  halts_within g fits lists left rest n same wrote room s = record {
     journal = s.0;
     legal = s.1.legal;
     tells = subst (λ z. Tells g.core g.told z s.0) (sym same) s.1.tells;
@@ -214,25 +268,36 @@ module _ (v : Searching) (told told' : Option outside.Journal) (held held' : Opt
     full = full_now g v told held left rest s.0 fits s.1 ready next;
     atoms = atoms_now g v told held left rest s.0 fits s.1 ready next xs are;
     line = line_now g v told held left rest s.0 fits s.1 ready next xs are line line_is;
+    unlisted = unlisted_now g v told held left rest s.0 fits s.1 ready next xs are line line_is (subst (λ b. ¬ (line ∈ b)) (sym lists) out);
     inside = inside_at g v told held left rest s.0 room s.1;
   }
 
   -- the whole line was written, and noting it failed
-  pub leaves_behind : (g : standing.Given) → Fits g v → (left rest : ℕ) → (sink : ℕ × ℕ) (before now : ℕ) (f : SearchFault) → told' ≡ told
+  pub leaves_behind : (g : standing.Given) → Fits g v → g.lists.book ≡ book → (left rest : ℕ) → (sink : ℕ × ℕ) (before now : ℕ) (f : SearchFault) → told' ≡ told
       → IsTraceCause before now f → Appends held held' line → 0 < left → Stands g v told held left rest
       → Leaves g told' held' sink (before, now) f
-  leaves_behind g fits left rest sink before now f same cause wrote room s = go f cause
+  leaves_behind g fits lists left rest sink before now f same cause wrote room s = go f cause
     where
       all_written : Appends held held' (take (length line) line)
       all_written = subst (λ z. Appends held held' z) (sym (take-length line)) wrote
 
       behind : HaltsBehind g told' held'
-      behind = (halts_within g fits left rest (length line) same all_written room s, refl)
+      behind = (halts_within g fits lists left rest (length line) same all_written room s, refl)
 
       go : (f : SearchFault) → IsTraceCause before now f → Leaves g told' held' sink (before, now) f
       go WriteFault c = absurd c
       go TraceFault c = (c, inr behind)
       go OutOfMemory c = inr behind
+
+-- noting a set that is listed failed, after which nothing was written or told
+pub leaves_unpassed : (v : Searching) (told told' : Option outside.Journal) (held : Option (List ℕ)) (sink : ℕ × ℕ) (before now : ℕ) (f : SearchFault)
+    → told' ≡ told → IsTraceCause before now f → (g : standing.Given) → Fits g v → (left rest : ℕ) → 0 < left → Stands g v told held left rest
+    → Leaves g told' held sink (before, now) f
+leaves_unpassed v told told' held sink before now WriteFault same cause g fits left rest room s = absurd cause
+leaves_unpassed v told told' held sink before now TraceFault same cause g fits left rest room s =
+    (cause, inl (halts_at g v told told' held left rest fits same room s))
+leaves_unpassed v told told' held sink before now OutOfMemory same cause g fits left rest room s =
+    inl (halts_at g v told told' held left rest fits same room s)
 
 -- bytes to which nothing happened
 pub kept_here : (held : Option (List ℕ)) → Keeps held held

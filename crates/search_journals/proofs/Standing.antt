@@ -7,7 +7,7 @@ use Rattle.alpha_outside.specs.Outside.{with_event, Rose}
 use Rattle.search_values.specs.Ids.{AtomNode, Named, BodyOf, Names}
 use Rattle.search_theory.specs.States.{State}
 use Rattle.search_theory.specs.Events.{NameTerm, NameAtom, NameBody, Number, Make, Put, Choose, Close, Strike, Learn, Justify, Back, Show, Pass, happens, Allowed}
-use Rattle.search_theory.specs.Journals.{Legal, Says, replay}
+use Rattle.search_theory.specs.Journals.{Says, replay}
 use Rattle.std.proofs.lemmas.List.{length-map}
 use Rattle.search_values.proofs.Basics.{get_left}
 use Rattle.core_rules.specs.declared.rules.Core.{Core}
@@ -15,7 +15,7 @@ use Rattle.core_meaning.specs.Atoms.{GroundAtom}
 use Rattle.search_rules.specs.Rules.{Reached, search_rules}
 use Rattle.search_state.specs.Searching.{Searching, made, made_of, state_of}
 use Rattle.search_journals.specs.Journals.{Step, Tells, AreLinesOf, strikes, makes}
-use Rattle.search_journals.specs.Standing.{Given, StandsAt, Stands, Fits, Carries, Halts, Hands, IsInside, IsTraceFault, IsRoundFault, IsTraceCause, unlisted}
+use Rattle.search_journals.specs.Standing.{Given, StandsAt, Stands, Fits, Carries, Halts, Hands, IsInside, IsTraceFault, IsRoundFault, IsTraceCause, unlisted, listed}
 use Rattle.search_journals.specs.declared.ends.SearchFault.{SearchFault}
 use Rattle.search_journals.specs.declared.ends.SearchFault.TheVariants.{WriteFault, TraceFault, OutOfMemory}
 use Rattle.search_journals.proofs.Unlisted.{ShowsNone, allowed_on, unlisted_next, says_on}
@@ -110,7 +110,7 @@ module _ (g : Given) (v v' : Searching) (told told' : Option outside.Journal) (h
   stands_on e ev w ok says is t count same = record {
     legal = (
       at.legal,
-      allowed_on (search_rules g.core) (replay (search_rules g.core) journal) e w
+      allowed_on (search_rules g.core) (replay (search_rules g.core) journal) (listed g) e w
           (subst (λ (s : Reached). Allowed (search_rules g.core) [] s e) at.is ok),
     );
     is = is ∙ ap (λ (s : Reached). unlisted (happens (search_rules g.core) s e)) at.is
@@ -125,8 +125,7 @@ module _ (g : Given) (v v' : Searching) (told told' : Option outside.Journal) (h
 module _ (v v' : Searching) (told told' : Option outside.Journal) (e : Step) (ev : event.Event) where
   -- an event that may come wherever the search stands, and was told, carries it on
   pub event_carries : (held : Option (List ℕ)) (left rest rest' : ℕ) → ShowsNone e
-      → ((journal : List Step) → Legal (search_rules v.core) [] journal → state_of v ≡ unlisted (replay (search_rules v.core) journal)
-      → Allowed (search_rules v.core) [] (state_of v) e)
+      → Allowed (search_rules v.core) [] (state_of v) e
       → Says (search_rules v.core) (state_of v) ev e → state_of v' ≡ unlisted (happens (search_rules v.core) (state_of v) e)
       → told' ≡ option_map (with_event ev) told
       → ((journal : List Step) → strikes (e ∷ journal) + rest' ≡ strikes journal + rest) → budget v' ≡ budget v
@@ -134,9 +133,7 @@ module _ (v v' : Searching) (told told' : Option outside.Journal) (e : Step) (ev
   event_carries held left rest rest' w ok says is t count same g fits (journal, at) = (
     e ∷ journal,
     stands_on g v v' told told' held left rest rest' journal at e ev w
-        (subst (λ core. Legal (search_rules core) [] journal → state_of v ≡ unlisted (replay (search_rules core) journal)
-        → Allowed (search_rules core) [] (state_of v) e) fits (ok journal)
-        at.legal at.is)
+        (subst (λ core. Allowed (search_rules core) [] (state_of v) e) fits ok)
         (says_on (search_rules g.core) (replay (search_rules g.core) journal) ev e
         (subst (λ s. Says (search_rules g.core) s ev e) at.is (subst (λ core. Says (search_rules core) (state_of v) ev e) fits says)))
         (subst (λ core. state_of v' ≡ unlisted (happens (search_rules core) (state_of v) e)) fits is)

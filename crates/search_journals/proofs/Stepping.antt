@@ -42,7 +42,7 @@ runs_put v v' told told' n a value ready next is few t = (
     ready = subst (λ z. IsReady z) (sym is) (ready_put v a n value (put_may v next.1.0 n a value next.0 next.1.2) ready);
     stays = λ ng i. subst (λ (z : Searching). ng ∈ z.nogoods) (sym is) i;
     carries = λ held left rest. event_carries v v' told told' (Put a value n) (say.Put a value n) held left rest rest tt
-        (λ journal legal at. may_put v ready n a value next) refl (ap state_of is) t (λ journal. refl)
+        (may_put v ready n a value next) refl (ap state_of is) t (λ journal. refl)
         (ap budget is);
   },
   assigned_falls v v' a value (Given n) (ap (λ (z : Searching). z.left) is) (ap (λ (z : Searching). z.joined) is)
@@ -61,7 +61,7 @@ runs_choose v v' told told' b ready next is few t = (
         (ready_opened v b (decision true) Chosen false (choose_may v b next.3 next.4.2.not_yet) ready next.0.none_struck);
     stays = λ ng i. subst (λ (z : Searching). ng ∈ z.nogoods) (sym is) i;
     carries = λ held left rest. event_carries v v' told told' (Choose b true) (say.Chosen b true) held left rest rest tt
-        (λ journal legal at. may_choose v ready b next) refl (ap state_of is) t (λ journal. refl)
+        (may_choose v ready b next) refl (ap state_of is) t (λ journal. refl)
         (ap budget is);
   },
   assigned_falls v v' b True Chosen (ap (λ (z : Searching). z.left) is) (ap (λ (z : Searching). z.joined) is)
@@ -81,7 +81,7 @@ runs_close v v' told told' x ready next is few t =
             (ready_opened v x False (Closed None) true (close_may v x low next.4) ready next.0.none_struck);
         stays = λ ng i. subst (λ (z : Searching). ng ∈ z.nogoods) (sym is) i;
         carries = λ held left rest. event_carries v v' told told' (Close x) (say.Closed x) held left rest rest tt
-            (λ journal legal at. may_close v ready x next) refl (ap state_of is) t (λ journal. refl)
+            (may_close v ready x next) refl (ap state_of is) t (λ journal. refl)
             (ap budget is);
       },
       assigned_falls v v' x False (Closed None) (ap (λ (z : Searching). z.left) is) (ap (λ (z : Searching). z.joined) is)

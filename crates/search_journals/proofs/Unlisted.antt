@@ -140,25 +140,25 @@ module _ (rules : Rules Numbers GroundAtom Maker) (s : Reached) where
   pub atoms_on : (ids : List ℕ) → AreTrueUserAtoms rules (unlisted s) ids → AreTrueUserAtoms rules s ids
   atoms_on ids t = record { all_there = t.all_there; each_true = t.each_true; atoms = t.atoms; names = t.names; ordered = t.ordered }
 
-  -- what may come may come, but for a set
-  pub allowed_on : (e : Step) → ShowsNone e → Allowed rules [] (unlisted s) e → Allowed rules [] s e
-  allowed_on (NameTerm node) w h = h
-  allowed_on (NameAtom a) w h = h
-  allowed_on NameBody w h = h
-  allowed_on (Number x a number) w h = h
-  allowed_on (Make k) w h = (h.0, h.1, h.2, h.3, h.4, h.5, none_stuck_on h.6)
-  allowed_on (Put a v n) w h = h
-  allowed_on (Choose b up) w h = (h.0, h.1, h.2, (h.3.0, h.3.1, active_on h.3.0 b h.3.2), h.4, none_stuck_on h.5)
-  allowed_on (Close x) w h = (h.0, h.1, h.2, h.3, h.4, h.5, (λ c. settled_on (h.6 c)))
-  allowed_on (Strike n) w h = h
-  allowed_on (Learn Decisions ls) w h = ((h.0.0, elim h.0.1 [ inl e ↦ inl e | inr k ↦ inr (k.0, (k.1.0, stuck_on k.1.0 k.1.1)) ]), h.1)
-  allowed_on (Learn Enumerated ls) w h = h
-  allowed_on (Learn Analysed ls) w h = absurd h.0
-  allowed_on (Learn Justified ls) w h = absurd h.0
-  allowed_on (Justify atoms ls) w h = (justify_on atoms ls h.0, h.1)
-  allowed_on (Back l) w h = h
-  allowed_on (Show ids) w h = absurd w
-  allowed_on (Pass ids) w h = (h.0, full_on h.1, atoms_on ids h.2, h.3)
+  -- what may come where no set is listed may come where some are, but for a set
+  pub allowed_on : (sets : List (List GroundAtom)) (e : Step) → ShowsNone e → Allowed rules [] (unlisted s) e → Allowed rules sets s e
+  allowed_on sets (NameTerm node) w h = h
+  allowed_on sets (NameAtom a) w h = h
+  allowed_on sets NameBody w h = h
+  allowed_on sets (Number x a number) w h = h
+  allowed_on sets (Make k) w h = (h.0, h.1, h.2, h.3, h.4, h.5, none_stuck_on h.6)
+  allowed_on sets (Put a v n) w h = h
+  allowed_on sets (Choose b up) w h = (h.0, h.1, h.2, (h.3.0, h.3.1, active_on h.3.0 b h.3.2), h.4, none_stuck_on h.5)
+  allowed_on sets (Close x) w h = (h.0, h.1, h.2, h.3, h.4, h.5, (λ c. settled_on (h.6 c)))
+  allowed_on sets (Strike n) w h = h
+  allowed_on sets (Learn Decisions ls) w h = ((h.0.0, elim h.0.1 [ inl e ↦ inl e | inr k ↦ inr (k.0, (k.1.0, stuck_on k.1.0 k.1.1)) ]), h.1)
+  allowed_on sets (Learn Enumerated ls) w h = h
+  allowed_on sets (Learn Analysed ls) w h = absurd h.0
+  allowed_on sets (Learn Justified ls) w h = absurd h.0
+  allowed_on sets (Justify atoms ls) w h = (justify_on atoms ls h.0, h.1)
+  allowed_on sets (Back l) w h = h
+  allowed_on sets (Show ids) w h = absurd w
+  allowed_on sets (Pass ids) w h = absurd h.3.1
 
   -- the state after an event, without the sets found
   pub unlisted_next : (e : Step) → unlisted (happens rules (unlisted s) e) ≡ unlisted (happens rules s e)

@@ -9,7 +9,7 @@ use Rattle.search_theory.specs.States as phase
 use Rattle.search_theory.specs.Laws.{NoneEmpty}
 use Rattle.search_theory.specs.Events.{How, Decisions, Enumerated, Analysed, Justified, phase_struck, phase_learned, lits_at}
 use Rattle.search_state.specs.Searching.{Searching, jump_of, taken_back}
-use Rattle.search_journals.specs.Standing.{IsKept, IsReady, Carries, Given, Fits, Stands, Ends, Leaves}
+use Rattle.search_journals.specs.Standing.{IsKept, IsReady, Carries, CarriesOver, Given, Fits, Stands, Ends, Leaves}
 use Rattle.search_journals.specs.Moves.{MoveIs}
 use Rattle.search_journals.specs.declared.moves.Move.TheVariants as move
 use Rattle.search_journals.specs.declared.ends.Finish.{Finish}
@@ -53,7 +53,7 @@ pub record IsLearned (v : Searching) : Type 0 where
   pub nogood : slice_get v.nogoods number ≡ Some (chosen_nogood v)
   pub phase_is : (v.phase ≡ phase.MustStrike number) ⊎ ((v.phase ≡ phase.MustJump number) × (¬ (chosen v.stack ≡ [])))
 
--- a set was shown
+-- a set was shown or passed
 pub record IsFound (v : Searching) : Type 0 where
   pub kept : IsKept v
   pub firm : NoneEmpty v.nogoods
@@ -91,32 +91,35 @@ Rounds v v' told told' rest rest' (Some how) =
     (held : Option (List ℕ)) (left : ℕ) (g : Given) → Fits g v → 0 < left → Stands g v told held left rest
     → Ends g told' held left rest' how
 
--- the same, where a set may have been written; the pairs are how many sets may still be shown, and how many nogoods struck
-abbrev pub Outcome : Searching → Searching → Option outside.Journal → Option outside.Journal → Option (List ℕ) → Option (List ℕ) → (ℕ × ℕ)
-    → (ℕ × ℕ) → Option Finish → Type 0
-Outcome v v' told told' held held' before after None = Again v v' × (0 < after.0) × Carries v v' told told' held held' before after
-Outcome v v' told told' held held' before after (Some how) =
-    (g : Given) → Fits g v → Stands g v told held before.0 before.1 → Ends g told' held' after.0 after.1 how
+-- the same, where a set may have been written, and the lines of the sets that are listed are `book`; the pairs are how many sets may still be
+-- shown, and how many nogoods struck
+abbrev pub Outcome : List (List ℕ) → Searching → Searching → Option outside.Journal → Option outside.Journal → Option (List ℕ)
+    → Option (List ℕ) → (ℕ × ℕ) → (ℕ × ℕ) → Option Finish → Type 0
+Outcome book v v' told told' held held' before after None =
+    Again v v' × (0 < after.0) × CarriesOver book v v' told told' held held' before after
+Outcome book v v' told told' held held' before after (Some how) =
+    (g : Given) → Fits g v → g.lists.book ≡ book → Stands g v told held before.0 before.1 → Ends g told' held' after.0 after.1 how
 
 -- ---- rounds
 
--- the search stands where some legal journal leads
-pub record StandsSomewhere (v : Searching) (told : Option outside.Journal) (held : Option (List ℕ)) (left rest : ℕ) : Type 0 where
+-- the search stands where some legal journal leads, where the lines of the sets that are listed are these
+pub record StandsSomewhere (book : List (List ℕ)) (v : Searching) (told : Option outside.Journal) (held : Option (List ℕ)) (left rest : ℕ) : Type 0 where
   pub given : Given
   pub fits : Fits given v
+  pub lists : given.lists.book ≡ book
   pub stands : Stands given v told held left rest
 
 -- wherever the search stood, it ends
-abbrev pub EndsFrom : Searching → Option outside.Journal → Option outside.Journal → Option (List ℕ) → Option (List ℕ) → (ℕ × ℕ) → (ℕ × ℕ)
-    → Finish → Type 0
-EndsFrom v told told' held held' before after how = (g : Given) → Fits g v → Stands g v told held before.0 before.1
+abbrev pub EndsFrom : List (List ℕ) → Searching → Option outside.Journal → Option outside.Journal → Option (List ℕ) → Option (List ℕ) → (ℕ × ℕ)
+    → (ℕ × ℕ) → Finish → Type 0
+EndsFrom book v told told' held held' before after how = (g : Given) → Fits g v → g.lists.book ≡ book → Stands g v told held before.0 before.1
     → Ends g told' held' after.0 after.1 how
 
 -- or leaves what it may at a fault; the counts of faults are the sink's and the trace's
-abbrev pub LeavesFrom : Searching → Option outside.Journal → Option outside.Journal → Option (List ℕ) → Option (List ℕ) → (ℕ × ℕ) → (ℕ × ℕ)
-    → (ℕ × ℕ) → SearchFault → Type 0
-LeavesFrom v told told' held held' before sink trace fault = (g : Given) → Fits g v → Stands g v told held before.0 before.1
-    → Leaves g told' held' sink trace fault
+abbrev pub LeavesFrom : List (List ℕ) → Searching → Option outside.Journal → Option outside.Journal → Option (List ℕ) → Option (List ℕ)
+    → (ℕ × ℕ) → (ℕ × ℕ) → (ℕ × ℕ) → SearchFault → Type 0
+LeavesFrom book v told told' held held' before sink trace fault = (g : Given) → Fits g v → g.lists.book ≡ book
+    → Stands g v told held before.0 before.1 → Leaves g told' held' sink trace fault
 
 -- what a search answers that ends by itself after so many sets
 abbrev pub ended : Finish → ℕ → End

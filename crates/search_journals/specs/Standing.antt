@@ -4,10 +4,12 @@ use Rattle.std.specs.Io.KnownBytes.{Appends}
 use Rattle.lists.specs.Lists.{◌∈◌, concat}
 use Rattle.alpha_outside.specs.Outside as outside
 use Rattle.alpha_outside.specs.Outside.{Rose}
+use Rattle.asp_meaning.specs.Atoms.{Atom}
+use Rattle.core_meaning.specs.Atoms.{GroundAtom}
 use Rattle.search_values.specs.declared.entry.Entry.{Entry}
 use Rattle.search_values.specs.Values.{level_of}
 use Rattle.search_values.specs.Tables.{Made}
-use Rattle.search_theory.specs.States.{State, Free, IsFull, AreTrueUserAtoms}
+use Rattle.search_theory.specs.States.{State, Free, IsFull, AreTrueUserAtoms, IsSetOf}
 use Rattle.search_theory.specs.Journals.{Legal, replay, IsFinished}
 use Rattle.search_theory.specs.Laws.{NoneEmpty}
 use Rattle.core_rules.specs.declared.rules.Core.{Core}
@@ -19,8 +21,9 @@ use Rattle.lazy_grounder.specs.Lawful.{IsLawful}
 use Rattle.search_state.specs.Searching.{Searching, IsAllTold, ids, made, state_of}
 use Rattle.search_state.specs.Grounding.{HasLawfulStack}
 use Rattle.search_state.specs.Joined.{IsJoined}
+use Rattle.search_journals.specs.Search.{AreLinesOfSets, core_sets}
 use Rattle.search_journals.specs.Journals.{Step, Tells, strikes, makes, SomeStruck, IsSomeDue, IsLineOfIds, AreLinesOf}
-use Rattle.search_journals.specs.declared.ends.Settings.{Settings}
+use Rattle.search_settings.specs.declared.Settings.{Settings}
 use Rattle.search_journals.specs.declared.ends.SearchFault.{SearchFault}
 use Rattle.search_journals.specs.declared.ends.SearchFault.TheVariants.{WriteFault, TraceFault, OutOfMemory}
 use Rattle.search_journals.specs.declared.ends.Finish.{Finish}
@@ -40,24 +43,42 @@ pub record Hands (core : Core) (held held' : Option (List ℕ)) (journal : List 
 
 -- ---- standing
 
--- what a search was given: its core, and what was told and written before
+-- sets that are listed, and their lines
+pub record Listed : Type 0 where
+  pub book : List (List ℕ)
+  pub sets : List (List Atom)
+  pub are : AreLinesOfSets book sets
+
+-- what a search was given: its core, the sets that are listed, and what was told and written before
 pub record Given : Type 0 where
   pub core : Core
+  pub lists : Listed
   pub told : Option outside.Journal
   pub held : Option (List ℕ)
   pub limit : ℕ
   pub conflicts : ℕ
   pub instances : ℕ
 
+-- the sets that are listed, as atoms of the core
+abbrev pub listed : Given → List (List GroundAtom)
+listed g = core_sets g.lists.sets
+
 -- what a search with these settings was given
-abbrev pub given_for : Core → Option outside.Journal → Option (List ℕ) → Settings → Given
-given_for core told held settings =
-    record { core = core; told = told; held = held; limit = settings.limit; conflicts = settings.conflicts; instances = settings.instances }
+abbrev pub given_for : Core → Listed → Option outside.Journal → Option (List ℕ) → Settings → Given
+given_for core lists told held settings = record {
+  core = core;
+  lists = lists;
+  told = told;
+  held = held;
+  limit = settings.limit;
+  conflicts = settings.conflicts;
+  instances = settings.instances;
+}
 
 -- the search stands where this journal leads
 pub record StandsAt (g : Given) (v : Searching) (told : Option outside.Journal) (held : Option (List ℕ)) (left rest : ℕ)
     (journal : List Step) : Type 0 where
-  pub legal : Legal (search_rules g.core) [] journal
+  pub legal : Legal (search_rules g.core) (listed g) journal
   pub is : state_of v ≡ unlisted (replay (search_rules g.core) journal)
   pub tells : Tells g.core g.told told journal
   pub hands : Hands g.core g.held held journal
@@ -79,6 +100,12 @@ abbrev pub Carries : Searching → Searching → Option outside.Journal → Opti
 Carries v v' told told' held held' before after =
     (g : Given) → Fits g v → Stands g v told held before.0 before.1 → Stands g v' told' held' after.0 after.1
 
+-- the same, where the lines of the sets that are listed are these
+abbrev pub CarriesOver : List (List ℕ) → Searching → Searching → Option outside.Journal → Option outside.Journal → Option (List ℕ)
+    → Option (List ℕ) → (ℕ × ℕ) → (ℕ × ℕ) → Type 0
+CarriesOver book v v' told told' held held' before after =
+    (g : Given) → Fits g v → g.lists.book ≡ book → Stands g v told held before.0 before.1 → Stands g v' told' held' after.0 after.1
+
 -- ---- faults
 
 -- fewer sets than may be were shown, and no more nogoods struck and instances made than may be
@@ -90,7 +117,7 @@ pub record IsInside (g : Given) (journal : List Step) : Type 0 where
 -- a legal journal was told, and its lines were written
 pub record Halts (g : Given) (told : Option outside.Journal) (held : Option (List ℕ)) : Type 0 where
   pub journal : List Step
-  pub legal : Legal (search_rules g.core) [] journal
+  pub legal : Legal (search_rules g.core) (listed g) journal
   pub tells : Tells g.core g.told told journal
   pub hands : Hands g.core g.held held journal
   pub inside : IsInside g journal
@@ -98,7 +125,7 @@ pub record Halts (g : Given) (told : Option outside.Journal) (held : Option (Lis
 -- and a front of the line of a set that may be shown next
 pub record HaltsWithin (g : Given) (told : Option outside.Journal) (held : Option (List ℕ)) : Type 0 where
   pub journal : List Step
-  pub legal : Legal (search_rules g.core) [] journal
+  pub legal : Legal (search_rules g.core) (listed g) journal
   pub tells : Tells g.core g.told told journal
   pub lines : List (List ℕ)
   pub are : AreLinesOf (replay (search_rules g.core) journal) (State.shown (replay (search_rules g.core) journal)) lines
@@ -110,6 +137,7 @@ pub record HaltsWithin (g : Given) (told : Option outside.Journal) (held : Optio
   pub full : IsFull (search_rules g.core) (replay (search_rules g.core) journal)
   pub atoms : AreTrueUserAtoms (search_rules g.core) (replay (search_rules g.core) journal) ids
   pub line : IsLineOfIds (replay (search_rules g.core) journal) ids next
+  pub unlisted : (atoms : List GroundAtom) → atoms ∈ listed g → ¬ IsSetOf (replay (search_rules g.core) journal) ids atoms
   pub inside : IsInside g journal
 
 -- or the whole of it
@@ -185,7 +213,7 @@ EndsBy g journal left rest (finish.TermTooLarge line size) = (0 < left) × IsToo
 -- it ends where some journal leads
 pub record Ends (g : Given) (told : Option outside.Journal) (held : Option (List ℕ)) (left rest : ℕ) (how : Finish) : Type 0 where
   pub journal : List Step
-  pub legal : Legal (search_rules g.core) [] journal
+  pub legal : Legal (search_rules g.core) (listed g) journal
   pub tells : Tells g.core g.told told journal
   pub hands : Hands g.core g.held held journal
   pub sets_left : length (State.shown (replay (search_rules g.core) journal)) + left ≡ g.limit

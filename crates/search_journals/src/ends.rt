@@ -1,17 +1,6 @@
-//! How far a search may go, and how it ends.
+//! How a search ends.
 
 use alpha_outside::ArithOp;
-
-/// How far a search may go.
-#[derive(Clone, Copy, Debug, PartialEq, Eq)]
-pub struct Settings {
-    /// The most sets that are written; not 0.
-    pub limit: u64,
-    /// The most nogoods that are noted as struck.
-    pub conflicts: u64,
-    /// The most instances that are made.
-    pub instances: u64,
-}
 
 /// How a search ends by itself.
 #[derive(Clone, Copy, Debug, PartialEq, Eq)]

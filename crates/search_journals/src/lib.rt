@@ -9,5 +9,6 @@
 mod ends;
 mod moves;
 
-pub use ends::{End, Finish, SearchFault, Settings};
+pub use ends::{End, Finish, SearchFault};
 pub use moves::Move;
+pub use search_settings::Settings;

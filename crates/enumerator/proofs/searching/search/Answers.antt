@@ -1,12 +1,15 @@
 use Rattle.std.proofs.Common.{refl, subst}
 use Rattle.core_rules.specs.declared.rules.Core.{Core}
+use Rattle.search_journals.specs.Standing.{Listed}
 use Rattle.search_journals.specs.Search.{SinkChange, TraceChange, SearchAnswer}
 use Rattle.search_journals.proofs.Beginning.{nothing_answers}
 use Rattle.enumerator.proofs.Ends.{new_core, new_for, new_searchable}
+use Rattle.enumerator.proofs.Books.{book_lists}
 use Rattle.enumerator.proofs.searching.search.Goals as goal
 
 pub returns-in_default-clause-answer : goal.returns-in_default-clause-answer
-returns-in_default-clause-answer g c =
+returns-in_default-clause-answer g c A are =
+    let lists : Listed = record { book = c.args.book.now; sets = A; are = are } in
     let sink : SinkChange = record {
       held = g.O.Sink.held c.args.out.now;
       held' = g.O.Sink.held c.args.out.now;
@@ -19,7 +22,10 @@ returns-in_default-clause-answer g c =
       faults = g.T.Trace.faults c.args.trace.now;
       faults' = g.T.Trace.faults c.args.trace.now;
     } in
-    nothing_answers c.args.core c.requires.searchable c.args.settings c.requires.some sink trace refl refl
+    nothing_answers c.args.core c.requires.searchable lists c.args.settings c.requires.some sink trace refl refl
+
+pub whole-requires-clause-lists : goal.whole-requires-clause-lists
+whole-requires-clause-lists g c = book_lists c.args.book.now c.len.ensures.canonical
 
 pub whole-requires-clause-new : goal.whole-requires-clause-new
 whole-requires-clause-new g c = new_for c.args.core c.args.settings c.in-Ok.search c.in-Ok.ensures.fresh
@@ -28,7 +34,8 @@ pub whole-requires-clause-searchable : goal.whole-requires-clause-searchable
 whole-requires-clause-searchable g c = new_searchable c.args.core c.args.settings c.in-Ok.search c.in-Ok.ensures.fresh c.requires.searchable
 
 pub returns-clause-answer : goal.returns-clause-answer
-returns-clause-answer g c =
+returns-clause-answer g c A are =
+    let lists : Listed = record { book = c.args.book.now; sets = A; are = are } in
     let sink : SinkChange = record {
       held = g.O.Sink.held c.args.out.now;
       held' = g.O.Sink.held c.whole.new.out;
@@ -41,5 +48,5 @@ returns-clause-answer g c =
       faults = g.T.Trace.faults c.args.trace.now;
       faults' = g.T.Trace.faults c.whole.new.trace;
     } in
-    subst (λ (core : Core). SearchAnswer core c.args.settings sink trace c.whole.result)
-    (new_core c.args.core c.args.settings c.in-Ok.search c.in-Ok.ensures.fresh) c.whole.ensures.answer
+    subst (λ (core : Core). SearchAnswer core A c.args.settings sink trace c.whole.result)
+    (new_core c.args.core c.args.settings c.in-Ok.search c.in-Ok.ensures.fresh) (c.whole.ensures.answer A are)

@@ -1,0 +1,2 @@
+tea :- not coffee.
+coffee :- not tea.

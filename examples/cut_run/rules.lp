@@ -1,0 +1,2 @@
+{soup; salad}.
+{bread} :- soup.

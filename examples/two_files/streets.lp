@@ -1,0 +1,3 @@
+street(harbour,market).
+street(market,station).
+street(mill,bridge).
