@@ -5,9 +5,9 @@ use Rattle.std.proofs.lemmas.List.{reverse-append}
 use Rattle.alpha_outside.specs.declared.kinds.ArithOp.{ArithOp}
 use Rattle.alpha_outside.specs.declared.event.Event as outside
 use Rattle.alpha_outside.specs.declared.event.Event.TheVariants as say
-use Rattle.search_theory.specs.States.{State}
-use Rattle.search_theory.specs.Journals.{Says, SaysAll, replay}
-use Rattle.search_theory.specs.Events.{happens}
+use Rattle.journal_theory.specs.States.{State}
+use Rattle.journal_theory.specs.Journals.{Says, SaysAll, replay}
+use Rattle.journal_theory.specs.Events.{happens}
 use Rattle.search_values.specs.Instances.{Rules}
 use Rattle.core_meaning.specs.Atoms.{GroundAtom}
 use Rattle.search_rules.specs.Tests.{Maker}
@@ -145,13 +145,13 @@ module _ (rules : Rules Numbers GroundAtom Maker) where
   says_shown s (say.Chosen body up) e is = rw is (sym (no_sets (reverse (State.shown s))))
   says_shown s (say.Closed atom) e is = rw is (sym (no_sets (reverse (State.shown s))))
   says_shown s (say.Struck nogood) e is = rw is (sym (no_sets (reverse (State.shown s))))
-  says_shown s (say.Kept nogood) e is = absurd is
+  says_shown s (say.Kept nogood) e is = rw is (sym (no_sets (reverse (State.shown s))))
   says_shown s (say.Learned nogood how lits cover) e is = elim is.1 [
     | inl chosen ↦ rw chosen.1 (sym (no_sets (reverse (State.shown s))))
-    | inr covered ↦ rw covered.1.2 (sym (no_sets (reverse (State.shown s))))
+    | inr covered ↦ rw covered.1 (sym (no_sets (reverse (State.shown s))))
   ]
   says_shown s (say.Back level) e is = rw is (sym (no_sets (reverse (State.shown s))))
-  says_shown s (say.Wide atom count) e is = absurd is
+  says_shown s (say.Wide atom count) e is = rw is.1 (sym (no_sets (reverse (State.shown s))))
   says_shown s (say.Shown ids) e is = rw is (shown_next s ids)
   says_shown s (say.Passed ids) e is = rw is (sym (no_sets (reverse (State.shown s))))
 
@@ -166,10 +166,10 @@ module _ (rules : Rules Numbers GroundAtom Maker) where
   says_struck s (say.Chosen body up) e earlier is = rw is (omega arith)
   says_struck s (say.Closed atom) e earlier is = rw is (omega arith)
   says_struck s (say.Struck nogood) e earlier is = rw is refl
-  says_struck s (say.Kept nogood) e earlier is = absurd is
-  says_struck s (say.Learned nogood how lits cover) e earlier is = elim is.1 [ inl chosen ↦ rw chosen.1 (omega arith) | inr covered ↦ rw covered.1.2 (omega arith) ]
+  says_struck s (say.Kept nogood) e earlier is = rw is (omega arith)
+  says_struck s (say.Learned nogood how lits cover) e earlier is = elim is.1 [ inl chosen ↦ rw chosen.1 (omega arith) | inr covered ↦ rw covered.1 (omega arith) ]
   says_struck s (say.Back level) e earlier is = rw is (omega arith)
-  says_struck s (say.Wide atom count) e earlier is = absurd is
+  says_struck s (say.Wide atom count) e earlier is = rw is.1 (omega arith)
   says_struck s (say.Shown ids) e earlier is = rw is (omega arith)
   says_struck s (say.Passed ids) e earlier is = rw is (omega arith)
 
@@ -184,10 +184,10 @@ module _ (rules : Rules Numbers GroundAtom Maker) where
   says_made s (say.Chosen body up) e earlier is = rw is (omega arith)
   says_made s (say.Closed atom) e earlier is = rw is (omega arith)
   says_made s (say.Struck nogood) e earlier is = rw is (omega arith)
-  says_made s (say.Kept nogood) e earlier is = absurd is
-  says_made s (say.Learned nogood how lits cover) e earlier is = elim is.1 [ inl chosen ↦ rw chosen.1 (omega arith) | inr covered ↦ rw covered.1.2 (omega arith) ]
+  says_made s (say.Kept nogood) e earlier is = rw is (omega arith)
+  says_made s (say.Learned nogood how lits cover) e earlier is = elim is.1 [ inl chosen ↦ rw chosen.1 (omega arith) | inr covered ↦ rw covered.1 (omega arith) ]
   says_made s (say.Back level) e earlier is = rw is (omega arith)
-  says_made s (say.Wide atom count) e earlier is = absurd is
+  says_made s (say.Wide atom count) e earlier is = rw is.1 (omega arith)
   says_made s (say.Shown ids) e earlier is = rw is (omega arith)
   says_made s (say.Passed ids) e earlier is = rw is (omega arith)
 

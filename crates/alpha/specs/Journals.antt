@@ -12,7 +12,7 @@ use Rattle.core_rules.specs.declared.rules.Core.{Core}
 use Rattle.single_rules.specs.Splitting.{singles_of}
 use Rattle.rewriting.specs.CoreRules.{core_of}
 use Rattle.search_values.specs.Instances.{Rules}
-use Rattle.search_theory.specs.Journals.{Legal, SaysAll, replay, IsFinished}
+use Rattle.journal_theory.specs.Journals.{Legal, SaysAll, replay, IsFinished}
 use Rattle.core_meaning.specs.Atoms.{GroundAtom}
 use Rattle.search_rules.specs.Tests.{Maker}
 use Rattle.search_rules.specs.Rules.{Numbers, Reached, search_rules}

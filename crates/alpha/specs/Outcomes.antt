@@ -7,7 +7,7 @@ use Rattle.asp_syntax.specs.declared.tree.Statement.{Statement}
 use Rattle.asp_meaning.specs.Atoms.{Atom}
 use Rattle.asp_meaning.specs.Programs.{IsAnswerSet}
 use Rattle.asp_meaning.specs.Output.{IsBraceLine}
-use Rattle.search_theory.specs.Journals.{IsFinished}
+use Rattle.journal_theory.specs.Journals.{IsFinished}
 use Rattle.core_rules.specs.declared.rules.Core.{Core}
 use Rattle.core_meaning.specs.AnswerSets.{HasCoreSets}
 use Rattle.search_rules.specs.Faults.{IsOverflow, IsTooLarge}

@@ -4,7 +4,8 @@ ghost use Rattle.std.specs.Prelude.{◌≡◌, ◌<◌, true, false, Some};
 ghost use Rattle.alpha_outside.specs.declared.literal.Value.{Value};
 ghost use Rattle.search_values.specs.Values.{value_of, first_level};
 ghost use Rattle.nogood_store.specs.Stored.{HasNoAtomTwice};
-ghost use Rattle.conflict_learning.specs.Analysing.{AllHold, IsUnitBelow};
+ghost use Rattle.journal_theory.specs.Resolution.{IsOneHighest};
+ghost use Rattle.conflict_learning.specs.Analysing.{AllHold, IsUnitBelow, IsSecondLevel};
 ghost use Rattle.conflict_learning.specs.Pending.{ArePlaces, highest_of, second_of};
 
 use crate::places::is_closed_atom;
@@ -48,6 +49,17 @@ pub fn second_level(trail: &Trail, lits: &[Lit], top: u32) -> u32
         }
     }
     second
+}
+
+/// The level to which the search goes back where just one of these literals stands at their highest level: the second highest, or 0. It
+/// looks twice at each literal.
+pub fn unit_level(trail: &Trail, lits: &[Lit]) -> u32
+    requires hold { AllHold trail.now.stack lits.now }
+    requires one { IsOneHighest trail.now.stack lits.now }
+    ensures { IsSecondLevel trail.now.stack lits.now result }
+{
+    let top = highest_level(trail, lits);
+    second_level(trail, lits, top)
 }
 
 /// Whether no literal is closed, and just one is at their highest level, which isn't 0.

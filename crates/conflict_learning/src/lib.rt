@@ -20,3 +20,4 @@ mod tests;
 pub use analysis::{Analysis, analyse};
 pub use choosing::first_struck;
 pub use laws::learning_laws;
+pub use levels::unit_level;

@@ -39,7 +39,7 @@ ends_stop g v told held left rest fits s room all (move.TooLarge line size) how 
     subst (λ h. Ends g told held left rest h) (sym is) (ends_too_large g v told held left rest fits s room line size next)
 ends_stop g v told held left rest fits s room all move.Spent how is next =
     subst (λ h. Ends g told held left rest h) (sym is) (ends_instances g v told held left rest fits s room all next.0 next.1)
-ends_stop g v told held left rest fits s room all move.Stuck how is next = absurd is
+ends_stop g v told held left rest fits s room all (move.Stuck x) how is next = absurd is
 ends_stop g v told held left rest fits s room all move.Full how is next = absurd is
 
 -- so it ends wherever it stands
@@ -48,7 +48,7 @@ pub stop_ends : (book : List (List ℕ)) (v : Searching) (told : Option outside.
 stop_ends book v told held left rest room all m how is next g fits lists s = ends_stop g v told held left rest fits s room all m how is next
 
 -- a halt that is no conflict, no stuck atom and no set is such an end
-pub other_stops : (m : Move) → IsHalt m → ((n : ℕ) → ¬ (m ≡ move.Strike n)) → ¬ (m ≡ move.Stuck) → ¬ (m ≡ move.Full) → IsStop m
+pub other_stops : (m : Move) → IsHalt m → ((n : ℕ) → ¬ (m ≡ move.Strike n)) → ((x : ℕ) → ¬ (m ≡ move.Stuck x)) → ¬ (m ≡ move.Full) → IsStop m
 other_stops (move.Strike n) halt strike stuck full = absurd (strike n refl)
 other_stops move.Join halt strike stuck full = absurd halt
 other_stops (move.Justify x) halt strike stuck full = absurd halt
@@ -57,7 +57,7 @@ other_stops (move.Close x) halt strike stuck full = absurd halt
 other_stops (move.Overflow line op x y) halt strike stuck full = (finish.Overflow line op x y, refl)
 other_stops (move.TooLarge line size) halt strike stuck full = (finish.TermTooLarge line size, refl)
 other_stops move.Spent halt strike stuck full = (finish.Instances, refl)
-other_stops move.Stuck halt strike stuck full = absurd (stuck refl)
+other_stops (move.Stuck x) halt strike stuck full = absurd (stuck x refl)
 other_stops move.Full halt strike stuck full = absurd (full refl)
 
 -- ---- a search from its beginning

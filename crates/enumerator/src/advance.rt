@@ -38,7 +38,7 @@ fn step<T: Trace>(
         Move::Overflow { .. } => unreachable!(),
         Move::TooLarge { .. } => unreachable!(),
         Move::Spent => unreachable!(),
-        Move::Stuck => unreachable!(),
+        Move::Stuck(_) => unreachable!(),
         Move::Full => unreachable!(),
     }
 }

@@ -1,5 +1,5 @@
 //! How an atom that no rule gives becomes false: the nogood that says so is learned, with the atom itself as its cover, and then it is
-//! unit. Where the atom is must-be-true, the nogood is struck instead.
+//! unit. Where the atom is stuck, the nogood is to be struck instead.
 
 ghost use Rattle.std.specs.Prelude.{◌≤◌, IfErr, IfOk};
 ghost use Rattle.search_state.specs.Searching.{IsAllTold};
@@ -7,7 +7,7 @@ ghost use Rattle.search_state.specs.Moves.{IsNamed};
 ghost use Rattle.search_journals.specs.Standing.{IsReady, IsTraceFault};
 ghost use Rattle.search_journals.specs.Moves.{MoveIs};
 ghost use Rattle.search_journals.specs.Runs.{Stepped};
-ghost use Rattle.search_journals.specs.Justifying.{IsCoverOf, HasJustified};
+ghost use Rattle.search_journals.specs.Justifying.{IsCoverOf, MayJustifyNow, HasJustified};
 
 use crate::steps::{noted, put};
 use alpha_outside::{AtomId, Event, How, List, NogoodId, OutOfMemory, Pattern, Trace, Value};
@@ -27,15 +27,14 @@ fn cover_of(search: &Search, alloc: Global, atom: AtomId) -> Result<List<Pattern
     Ok(cover)
 }
 
-// Learns the nogood that no rule gives the atom.
-fn learn_justified<T: Trace>(
+/// Learns the nogood that no rule gives the atom.
+pub fn learn_justified<T: Trace>(
     search: &mut Search,
     alloc: Global,
     trace: &mut T,
     atom: AtomId,
 ) -> Result<NogoodId, SearchFault>
-    requires ready { IsReady search.old }
-    requires next { MoveIs search.old (Move.Justify atom) }
+    requires may { MayJustifyNow search.old atom }
     ensures later { T.faults trace.old ≤ T.faults trace.new }
     ensures learned { IfOk result (HasJustified search.old search.new (T.journal trace.old) (T.journal trace.new) atom) }
     ensures err { IfErr result (IsTraceFault search.old (T.journal trace.old) (T.journal trace.new) (T.faults trace.old) (T.faults trace.new)) }
@@ -58,7 +57,7 @@ fn learn_justified<T: Trace>(
     Ok(nogood)
 }
 
-/// Learns that no rule gives the atom, and makes it false. Where it is must-be-true, the search comes to a halt.
+/// Learns that no rule gives the atom, and makes it false.
 pub fn justify<T: Trace>(
     search: &mut Search,
     alloc: Global,
@@ -72,9 +71,5 @@ pub fn justify<T: Trace>(
     ensures err { IfErr result (IsTraceFault search.old (T.journal trace.old) (T.journal trace.new) (T.faults trace.old) (T.faults trace.new)) }
 {
     let nogood = learn_justified(search, alloc, trace, atom)?;
-    if search.is_unassigned(atom) {
-        put(search, trace, nogood, atom, Value::False)
-    } else {
-        Ok(Some(Move::Strike(nogood)))
-    }
+    put(search, trace, nogood, atom, Value::False)
 }

@@ -1,16 +1,18 @@
 //! What a search does next. Propagation comes first, and a nogood that is struck by it; then an atom that stays must-be-true above a closed
-//! one; then an entry of the trail that wasn't handed to the grounder; then an atom that no rule gives; then a body that is active. Where
-//! there is none of these, the state is settled: a must-be-true atom stays so, or an unassigned atom is closed, or a set is found.
+//! one; then an entry of the trail that wasn't handed to the grounder. Where a body is active, an atom that no rule gives comes before it. Where
+//! none is, the state is settled: a must-be-true atom stays so, or such an atom comes, or an unassigned atom is closed, or a set is found.
 
-ghost use Rattle.std.specs.Prelude.{◌≡◌, ◌≤◌, true, false, IfOk, IfErr, IfSome};
-ghost use Rattle.search_values.specs.Values.{HasClosed};
+ghost use Rattle.std.specs.Prelude.{◌≡◌, ◌≤◌, Some, true, false, IfOk, IfErr, IfSome, IfNone};
+ghost use Rattle.alpha_outside.specs.declared.literal.Value.TheVariants.{MustBe};
+ghost use Rattle.search_values.specs.Values.{value_of, HasClosed};
 ghost use Rattle.lazy_grounder.specs.Lawful.{IsLawful};
 ghost use Rattle.search_state.specs.Searching.{IsAllTold};
-ghost use Rattle.search_state.specs.Moves.{FixIs};
-ghost use Rattle.search_state.specs.Underivable.{IsUnderivable};
+ghost use Rattle.search_state.specs.Moves.{FixIs, IsNamed};
+ghost use Rattle.search_state.specs.Underivable.{CanBeOut};
 ghost use Rattle.search_journals.specs.Standing.{IsReady, IsTraceFault};
 ghost use Rattle.search_journals.specs.Runs.{GoesOn};
-ghost use Rattle.search_journals.specs.Moves.{MoveIs, IsHalt, IsQuiet, IsIdle, NoneSince, SomeMustBe};
+ghost use Rattle.search_journals.specs.Moves.{MoveIs, IsHalt, IsQuiet, IsIdle, NoneSince};
+ghost use Rattle.search_journals.specs.declared.moves.Move.TheVariants.{Choose};
 
 use crate::propagating::propagate;
 use alpha_outside::{AtomId, OutOfMemory, Trace};
@@ -56,25 +58,33 @@ fn quiet_move(search: &Search) -> Result<Move, OutOfMemory>
     requires quiet { IsQuiet search.now }
     ensures { IfOk result (MoveIs search.now) }
 {
-    if is_stuck_since(search) {
-        return Ok(Move::Stuck);
+    if let Some(atom) = stuck_since(search) {
+        return Ok(Move::Stuck(atom));
     }
     if search.has_risen() {
         return Ok(Move::Join);
     }
-    if let Some(atom) = barred(search)? {
-        return Ok(Move::Justify(atom));
+    match search.active() {
+        Some(body) => active_move(search, body),
+        None => idle_move(search),
     }
-    if let Some(body) = search.active() {
-        return Ok(Move::Choose(body));
-    }
-    Ok(idle_move(search))
 }
 
-// An atom that no rule gives, where no atom is closed.
+// The first named atom that is must-be-true above a closed one.
+fn stuck_since(search: &Search) -> Option<AtomId>
+    ensures some { IfSome result (λ x. IsNamed search.now x × (value_of search.now.stack x ≡ Some MustBe) × HasClosed search.now.stack) }
+    ensures none { IfNone result (NoneSince search.now) }
+{
+    if !search.has_closed() {
+        return None;
+    }
+    search.must_be()
+}
+
+// An atom without a value that no rule gives, where no atom is closed.
 fn barred(search: &Search) -> Result<Option<AtomId>, OutOfMemory>
     requires { IsLawful search.now.core search.now.ground }
-    ensures { IfOk result (λ found. IfSome found (λ x. (¬ HasClosed search.now.stack) × IsUnderivable search.now x)) }
+    ensures { IfOk result (λ found. IfSome found (λ x. (¬ HasClosed search.now.stack) × CanBeOut search.now x)) }
 {
     if search.has_closed() {
         return Ok(None);
@@ -82,30 +92,38 @@ fn barred(search: &Search) -> Result<Option<AtomId>, OutOfMemory>
     search.underivable()
 }
 
-// Whether a named atom is must-be-true above a closed one.
-fn is_stuck_since(search: &Search) -> bool
-    ensures yes { result ≡ true → SomeMustBe search.now × HasClosed search.now.stack }
-    ensures no { result ≡ false → NoneSince search.now }
+// What comes next where this body is active.
+fn active_move(search: &Search, body: AtomId) -> Result<Move, OutOfMemory>
+    requires lawful { IsLawful search.now.core search.now.ground }
+    requires next { MoveIs search.now (Choose body) }
+    ensures { IfOk result (MoveIs search.now) }
 {
-    search.has_closed() && search.must_be().is_some()
+    if let Some(atom) = barred(search)? {
+        return Ok(Move::Justify(atom));
+    }
+    Ok(Move::Choose(body))
 }
 
 // What comes next where the state is settled.
-fn idle_move(search: &Search) -> Move
+fn idle_move(search: &Search) -> Result<Move, OutOfMemory>
+    requires lawful { IsLawful search.now.core search.now.ground }
     requires quiet { IsQuiet search.now }
     requires idle { IsIdle search.now }
-    ensures { MoveIs search.now result }
+    ensures { IfOk result (MoveIs search.now) }
 {
-    if search.must_be().is_some() {
-        return Move::Stuck;
+    if let Some(atom) = search.must_be() {
+        return Ok(Move::Stuck(atom));
+    }
+    if let Some(atom) = barred(search)? {
+        return Ok(Move::Justify(atom));
     }
     match search.unassigned() {
-        Some(atom) => Move::Close(atom),
-        None => Move::Full,
+        Some(atom) => Ok(Move::Close(atom)),
+        None => Ok(Move::Full),
     }
 }
 
-/// Whether the literals chosen are learned next, or the search ends.
+/// Whether something is learned next, or the search ends.
 pub fn is_halt(found: &Move) -> bool
     ensures yes { result ≡ true → IsHalt found.now }
     ensures no { result ≡ false → ¬ IsHalt found.now }
@@ -116,7 +134,7 @@ pub fn is_halt(found: &Move) -> bool
             | Move::Overflow { .. }
             | Move::TooLarge { .. }
             | Move::Spent
-            | Move::Stuck
+            | Move::Stuck(_)
             | Move::Full
     )
 }

@@ -4,7 +4,7 @@
 ghost use Rattle.std.specs.Prelude.{◌≡◌, ◌≤◌, ◌<◌, ◌+◌, ℕ, List, Option, OnOk, IfErr};
 ghost use Rattle.lists.specs.Lists.{◌∈◌};
 ghost use Rattle.asp_meaning.specs.Lines.{IsSetLine};
-ghost use Rattle.search_theory.specs.States as phase;
+ghost use Rattle.journal_theory.specs.States as phase;
 ghost use Rattle.search_state.specs.Moves.{AreTrueIds};
 ghost use Rattle.search_journals.specs.Standing.{IsReady, CarriesOver, Fits, Given, Stands, Leaves};
 ghost use Rattle.search_journals.specs.Moves.{MoveIs};

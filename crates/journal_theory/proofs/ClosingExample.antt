@@ -429,13 +429,13 @@ atoms_shown = record {
 
 -- each event may come
 allowed_0 : Allowed closing_rules [] state_0 (NameAtom 0)
-allowed_0 = (refl, (λ x e. cc), refl, none_stuck state_0 (λ x e. cc))
+allowed_0 = (refl, (λ x e. cc), refl)
 
 allowed_1 : Allowed closing_rules [] state_1 (NameAtom 1)
-allowed_1 = (refl, not_named_b, refl, none_stuck state_1 (λ x e. cc))
+allowed_1 = (refl, not_named_b, refl)
 
 allowed_2 : Allowed closing_rules [] state_2 (NameAtom 2)
-allowed_2 = (refl, not_named_c, refl, none_stuck state_2 (λ x e. cc))
+allowed_2 = (refl, not_named_c, refl)
 
 allowed_3 : Allowed closing_rules [] state_3 (NameBody)
 allowed_3 = (refl, not_pending, none_stuck state_3 (λ x e. cc))

@@ -380,10 +380,10 @@ made_b_atoms = record { kind = Plain 1; pos = []; neg = 0 ∷ [] }
 
 -- each event may come
 allowed_0 : Allowed example_rules [] state_0 (NameAtom 0)
-allowed_0 = (refl, (λ x e. cc), refl, none_stuck_at_first state_0 refl)
+allowed_0 = (refl, (λ x e. cc), refl)
 
 allowed_1 : Allowed example_rules [] state_1 (NameAtom 1)
-allowed_1 = (refl, not_named_b, refl, none_stuck_at_first state_1 refl)
+allowed_1 = (refl, not_named_b, refl)
 
 allowed_2 : Allowed example_rules [] state_2 (NameBody)
 allowed_2 = (refl, not_pending_a, none_stuck_at_first state_2 refl)

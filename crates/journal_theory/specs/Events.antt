@@ -160,7 +160,7 @@ IsUnitAt stack ngs n = (ng : Nogood) × (slice_get ngs n ≡ Some ng) × ((a : �
 -- the event may come in this state, where `listed` holds the sets that a file lists
 abbrev pub Allowed : {N A K : Type 0} → Rules N A K → List (List A) → State N A K → Event A K → Type 0
 Allowed core listed s (NameTerm node) = (¬ IsFinished s) × (¬ (node ∈ s.terms)) × PartsBelow (length s.terms) node
-Allowed core listed s (NameAtom a) = (s.phase ≡ Free) × ((x : ℕ) → ¬ IsName s x a) × (core.may_be_named s.numbers a ≡ true) × NoneStuck core s
+Allowed core listed s (NameAtom a) = (s.phase ≡ Free) × ((x : ℕ) → ¬ IsName s x a) × (core.may_be_named s.numbers a ≡ true)
 Allowed core listed s NameBody = (s.phase ≡ Free) × ((b : ℕ) → ¬ IsPending s b) × NoneStuck core s
 Allowed core listed s (Number x a number) =
     (s.phase ≡ Free) × IsName s x a × IsUp s x × (core.is_numbered s.numbers a ≡ false) × (number ≡ core.next_number s.numbers a)

@@ -134,7 +134,8 @@ pub record IsStuck {N A K : Type 0} (core : Rules N A K) (s : State N A K) (x : 
   pub none_unit : NoneUnit s.stack s.nogoods
   pub why : IsSettled core s ⊎ MustSinceClosed s.stack x
 
--- no atom is stuck. An instance is made, an atom or a body is named and a body is chosen only then; else what has to follow a stuck atom comes
+-- no atom is stuck. An instance is made and a body is named or chosen only then; else what has to follow a stuck atom comes, and only terms and
+-- atoms may be named before it
 abbrev pub NoneStuck : {N A K : Type 0} → Rules N A K → State N A K → Type 0
 NoneStuck core s = (x : ℕ) → ¬ IsStuck core s x
 

@@ -2,13 +2,13 @@
 use Rattle.std.proofs.Common.{ℕ, true, List, ◌∷◌, [], inl, inr, refl}
 use Rattle.search_values.specs.declared.entry.Entry.{Entry}
 use Rattle.search_values.specs.Values.{Value, HasClosed, MustSinceClosed}
-use Rattle.search_theory.specs.States.{NoneActive, IsSettled}
-use Rattle.search_theory.specs.Events.{Put, Choose, Close, Allowed, NoneStuck}
+use Rattle.journal_theory.specs.States.{NoneActive, IsSettled}
+use Rattle.journal_theory.specs.Events.{Put, Choose, Close, Allowed, NoneStuck}
 use Rattle.search_rules.specs.Rules.{search_rules}
 use Rattle.search_state.specs.Searching.{Searching, made, state_of}
 use Rattle.search_state.specs.Moves.{NoChoice}
 use Rattle.search_journals.specs.Standing.{IsReady}
-use Rattle.search_journals.specs.Moves.{MoveIs, GivesNow, IsQuiet, IsIdle, NoneSince}
+use Rattle.search_journals.specs.Moves.{MoveIs, GivesNow, IsQuiet, IsIdle, NoneSince, NoneStays}
 use Rattle.search_journals.specs.declared.moves.Move.TheVariants as move
 use Rattle.search_state.proofs.JoinLemmas.{all_joined_is_none_due}
 use Rattle.search_journals.proofs.Names.{get_at}
@@ -29,6 +29,12 @@ none_stuck v since unsettled x stuck = elim stuck.why [
     | inr no_closed ↦ no_closed (since_closed v.stack x closed)
   ]
 ]
+
+-- nor is one where none stays must-be-true and no atom is closed
+pub none_stays_stuck : (v : Searching) → ¬ HasClosed v.stack → NoneStays v → NoneStuck (search_rules v.core) (state_of v)
+none_stays_stuck v unclosed (inl none) x stuck = none x stuck.named stuck.must_be
+none_stays_stuck v unclosed (inr active) x stuck =
+    none_stuck v (inr unclosed) (λ settled. settled.none_active active.1 active.2 active.0 active.3) x stuck
 
 module _ (v : Searching) (ready : IsReady v) where
   -- nothing is active

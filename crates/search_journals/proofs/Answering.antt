@@ -10,12 +10,12 @@ use Rattle.asp_meaning.specs.Output.{IsBraceLine}
 use Rattle.asp_laws.proofs.Readable.{one_line_for_the_same_set}
 use Rattle.alpha_outside.specs.Outside as outside
 use Rattle.core_rules.specs.declared.rules.Core.{Core}
-use Rattle.search_theory.specs.States.{State}
-use Rattle.search_theory.specs.Journals.{replay, Legal, IsFinished}
-use Rattle.search_theory.proofs.Events.{legal_safe}
-use Rattle.search_theory.proofs.LawProofs.{shown_is_not_listed, shown_once}
-use Rattle.search_theory.proofs.FoundOnce.{found_is_new, found_are_answer_sets}
-use Rattle.search_theory.proofs.Missed.{none_is_missed}
+use Rattle.journal_theory.specs.States.{State}
+use Rattle.journal_theory.specs.Journals.{replay, Legal, IsFinished}
+use Rattle.journal_theory.proofs.Events.{legal_safe}
+use Rattle.journal_theory.proofs.LawProofs.{shown_is_not_listed, shown_once}
+use Rattle.journal_theory.proofs.FoundOnce.{found_is_new, found_are_answer_sets}
+use Rattle.journal_theory.proofs.Missed.{none_is_missed}
 use Rattle.search_rules.specs.Rules.{Reached, search_rules}
 use Rattle.search_rules.specs.Stage.{IsSearchable}
 use Rattle.search_rules.proofs.CoreSets.{core_sets_are_found}

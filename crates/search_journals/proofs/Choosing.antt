@@ -1,5 +1,5 @@
--- The literals chosen on a stack, and the level below the last of them.
-use Rattle.std.proofs.Common.{◌≡◌, ℕ, ◌+◌, ◌<◌, ◌≤◌, ◌⊎◌, Bool, true, false, cond, List, [], ◌∷◌, map, refl, sym, ◌∙◌, ap, subst, inl, inr, arith}
+-- The literals chosen on a stack, and levels.
+use Rattle.std.proofs.Common.{◌≡◌, ℕ, ◌+◌, ◌<◌, ◌≤◌, ◌⊎◌, Bool, true, false, cond, List, [], ◌∷◌, ◌++◌, map, refl, sym, ◌∙◌, ap, subst, inl, inr, arith}
 use Rattle.std.specs.Prelude.{Option, Some, None, nat_eq, nat_le}
 use Rattle.lists.specs.Lists.{◌∈◌}
 use Rattle.alpha_outside.specs.declared.literal.Value.{Value}
@@ -9,8 +9,11 @@ use Rattle.search_values.specs.declared.entry.Why.TheVariants.{Given, Chosen, Cl
 use Rattle.search_values.specs.declared.entry.Entry.{Entry}
 use Rattle.search_values.specs.Values.{is_up, lit, value_of, opened, level_of, back_to, first_level, all_at_0, chosen_with, chosen}
 use Rattle.search_values.proofs.Basics.{value_cases, nat_eq-same}
+use Rattle.lists.proofs.ListLemmas.{∈-append_cases}
+use Rattle.search_values.specs.Nogoods.{Nogood}
+use Rattle.journal_theory.specs.Laws.{NoneEmpty}
 use Rattle.nogood_store.specs.Stored.{HasNoAtomTwice, atom_of}
-use Rattle.search_state.specs.Searching.{jump_of, jump_by}
+use Rattle.search_journals.specs.Settling.{learnt}
 
 -- each literal chosen is of an entry
 pub chosen_entry : (stack : List Entry) (l : Lit) → l ∈ chosen stack → (e : Entry) × (e ∈ stack) × (e.atom ≡ l.atom)
@@ -26,7 +29,7 @@ chosen_entry (e ∷ rest) l i = go e.why (value_of rest e.atom) (λ j. let w = c
     go (Closed reason) v older j = older j
 
 -- an atom with an entry has a value
-has_value : (stack : List Entry) (e : Entry) → e ∈ stack → ¬ (value_of stack e.atom ≡ None)
+pub has_value : (stack : List Entry) (e : Entry) → e ∈ stack → ¬ (value_of stack e.atom ≡ None)
 has_value [] e i none = absurd i
 has_value (x ∷ rest) e (inl q) none = let w : value_of (x ∷ rest) x.atom ≡ None =
     subst (λ (z : Entry). value_of (x ∷ rest) z.atom ≡ None) q none in
@@ -60,22 +63,6 @@ chosen_once (e ∷ rest) = go e.why (value_of rest e.atom) refl (chosen_once res
     )
     go Chosen (Some v) q h = h
     go (Closed reason) v q h = h
-
--- where literals are chosen, the level below the last of them is lower
-pub jump_low : (stack : List Entry) → ¬ (chosen stack ≡ []) → jump_of stack < level_of stack
-jump_low [] n = absurd (n refl)
-jump_low (e ∷ rest) n = go e.why refl (value_of rest e.atom) (jump_low rest) n
-  where
-    lower : jump_of rest < level_of rest → jump_of rest < level_of rest + opened e.why
-    lower h = omega (arith, h)
-
-    go : (w : Why) → e.why ≡ w → (v : Option Value) → (¬ (chosen rest ≡ []) → jump_of rest < level_of rest)
-        → ¬ (chosen_with w v (lit e.atom (is_up e.value)) (chosen rest) ≡ [])
-        → jump_by w v (level_of rest) (jump_of rest) < level_of rest + opened e.why
-    go (Given k) q v ih m = lower (ih m)
-    go Chosen q None ih m = let one : opened e.why ≡ 1 = ap opened q in omega (arith, one)
-    go Chosen q (Some v) ih m = lower (ih m)
-    go (Closed reason) q v ih m = lower (ih m)
 
 -- what is in one of two lists is in either
 back_pick : (b : Bool) (stack other : List Entry) (x : Entry) → x ∈ cond b stack other → (x ∈ stack) ⊎ (x ∈ other)
@@ -113,3 +100,13 @@ all_low stack (l ∷ ls) z =
 -- the literals chosen have ids, where the entries have
 pub chosen_below : (stack : List Entry) (n : ℕ) → ((e : Entry) → e ∈ stack → e.atom < n) → (l : Lit) → l ∈ chosen stack → l.atom < n
 chosen_below stack n placed l i = let w = chosen_entry stack l i in subst (λ z. z < n) w.2 (placed w.0 w.1)
+
+-- no nogood is empty where one comes that isn't
+pub none_empty_more : (ngs : List Nogood) (ls : List Lit) → ¬ (ls ≡ []) → NoneEmpty ngs → NoneEmpty (ngs ++ learnt ls ∷ [])
+none_empty_more ngs ls some none ng i e = elim (∈-append_cases ng ngs (learnt ls ∷ []) i) [
+  | inl old ↦ none ng old e
+  | inr last ↦ elim last [
+    | inl is ↦ some (sym (ap (λ (z : Nogood). z.lits) is) ∙ e)
+    | inr n ↦ absurd n
+  ]
+]

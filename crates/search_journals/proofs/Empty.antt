@@ -29,6 +29,7 @@ stands_fresh g preds = (
   [],
   record {
     legal = tt;
+    far = tt;
     is = refl;
     tells = nothing_told g.core g.told;
     hands = record { lines = []; are = tt; bytes = nothing_written g.held };

@@ -1,38 +1,34 @@
 -- How a round ends: the search goes on, or it is at its end.
-use Rattle.std.proofs.Common.{◌≡◌, ℕ, ℤ, ◌+◌, ◌-◌, ◌^◌, ◌<◌, ◌≤◌, ◌⊎◌, Bool, true, false, List, [], ◌∷◌, ◌++◌, length, refl, sym, ◌∙◌, ap, subst, inl, inr, arith}
-use Rattle.std.specs.Prelude.{Option, Some, None, Result, Ok, Err, OnOk, IfOk, slice_get}
+use Rattle.std.proofs.Common.{◌≡◌, ℕ, ℤ, ◌+◌, ◌-◌, ◌^◌, ◌<◌, ◌≤◌, Bool, true, false, List, [], ◌∷◌, length, refl, sym, ◌∙◌, ap, subst, inl, inr, arith}
+use Rattle.std.specs.Prelude.{Option, Some, None, Result, Ok, Err, IfOk, slice_get}
 use Rattle.std.specs.Bool.{◌==◌}
-use Rattle.lists.specs.Lists.{◌∈◌}
-use Rattle.lists.proofs.ListLemmas.{∈-append_cases}
 use Rattle.alpha_outside.specs.Outside as outside
 use Rattle.alpha_outside.specs.declared.literal.Lit.{Lit}
 use Rattle.search_values.specs.Values.{chosen, all_at_0}
 use Rattle.search_values.specs.Nogoods.{Nogood, IsStruck}
-use Rattle.search_theory.specs.States as phase
-use Rattle.search_theory.specs.States.{Phase}
-use Rattle.search_theory.specs.Laws.{NoneEmpty}
-use Rattle.search_theory.specs.Events.{How, Decisions, Enumerated, phase_struck, phase_learned, lits_at, lits_in}
+use Rattle.journal_theory.specs.States as phase
+use Rattle.journal_theory.specs.Laws.{NoneEmpty}
+use Rattle.journal_theory.specs.Events.{phase_struck, lits_at}
 use Rattle.alpha_outside.specs.declared.kinds.ArithOp.{ArithOp}
-use Rattle.search_theory.specs.Journals.{replay}
-use Rattle.search_values.proofs.Basics.{get_last, in_single}
-use Rattle.search_state.specs.Searching.{Searching, IsAllTold, ids, made, state_of, jump_of}
+use Rattle.journal_theory.specs.Journals.{replay}
+use Rattle.search_state.specs.Searching.{Searching, IsAllTold, ids, made, state_of, taken_back}
 use Rattle.search_rules.specs.Rules.{Reached, search_rules}
 use Rattle.search_rules.specs.Faults.{IsOverflow, IsTooLarge}
 use Rattle.search_journals.specs.Journals.{Step, makes, SomeStruck, IsSomeDue}
 use Rattle.search_journals.specs.Standing as standing
-use Rattle.search_journals.specs.Standing.{Stands, StandsAt, Fits, Carries, CarriesOver, Ends, EndsBy, IsReady, IsKept, IsGrounded, IsRoundFault, Leaves}
+use Rattle.search_journals.specs.Standing.{Stands, StandsAt, Fits, Carries, CarriesOver, Ends, EndsBy, IsReady, IsKept, IsGrounded, IsTraceFault, IsRoundFault, Leaves}
 use Rattle.search_journals.specs.Moves.{MoveIs}
 use Rattle.search_journals.specs.declared.moves.Move.TheVariants as move
 use Rattle.search_journals.specs.declared.ends.SearchFault.{SearchFault}
 use Rattle.search_journals.specs.declared.ends.SearchFault.TheVariants.{WriteFault, TraceFault, OutOfMemory}
 use Rattle.search_journals.specs.declared.ends.Finish.{Finish}
 use Rattle.search_journals.specs.declared.ends.Finish.TheVariants as finish
-use Rattle.search_journals.specs.Settling.{IsLearned, IsFound, MayLearnNow, struck_by, learned_by, gone_back, chosen_nogood, Carried, Settled, Again, Rounds, Outcome}
+use Rattle.search_journals.specs.Settling.{IsFound, struck_by, learned_by, Carried, Again, Turned, Rounds, HasLearnedChosen, IsLess, Outcome}
 use Rattle.search_journals.proofs.Standing.{cause_on, made_count, makes_within}
 use Rattle.search_journals.proofs.Unlisted.{overflow_on, too_large_on, due_on}
 use Rattle.search_journals.proofs.Readying.{none_empty, kept_back, kept_with}
 use Rattle.search_journals.proofs.ToldAll.{made_length}
-use Rattle.search_journals.proofs.Choosing.{all_low, chosen_below}
+use Rattle.search_journals.proofs.Choosing.{all_low, chosen_below, none_empty_more}
 use Rattle.search_journals.proofs.Learning.{learned_struck}
 
 -- ---- how many instances were made
@@ -145,80 +141,32 @@ pub kept_struck : (v v' : Searching) (n : ℕ) → v' ≡ struck_by v n → IsKe
 kept_struck v v' n is k = subst (λ (z : Searching). IsKept z) (sym is) (kept_with v (struck_by v n) refl k)
 
 -- so does a learned one
-pub kept_learned : (v v' : Searching) → v' ≡ learned_by v → IsKept v → IsKept v'
-kept_learned v v' is k = subst (λ (z : Searching). IsKept z) (sym is) (kept_with v (learned_by v) refl k)
-
--- a search that is ready keeps it
-pub kept_ready : (v : Searching) → IsReady v → IsKept v
-kept_ready v r = r.kept
-
--- what has to come after literals were learned
-phase_jump : (ph : Phase) (n : ℕ) (ls : List Lit) → ((ph ≡ phase.Free) ⊎ (ph ≡ phase.MustLearn)) ⊎ ((ph ≡ phase.Found) × (¬ (ls ≡ [])))
-    → (phase_learned ph n ls ≡ phase.MustStrike n) ⊎ ((phase_learned ph n ls ≡ phase.MustJump n) × (¬ (ls ≡ [])))
-phase_jump ph n ls (inl (inl e)) = inl (ap (λ z. phase_learned z n ls) e)
-phase_jump ph n [] (inl (inr e)) = inl (ap (λ z. phase_learned z n []) e)
-phase_jump ph n (l ∷ ls) (inl (inr e)) = inr (ap (λ z. phase_learned z n (l ∷ ls)) e, (λ none. cc))
-phase_jump ph n ls (inr w) = inr (ap (λ z. phase_learned z n ls) w.0, w.1)
-
--- what had to come before they were
-may_phase : (v : Searching) (how : How) → MayLearnNow v how
-    → ((v.phase ≡ phase.Free) ⊎ (v.phase ≡ phase.MustLearn)) ⊎ ((v.phase ≡ phase.Found) × (¬ (chosen v.stack ≡ [])))
-may_phase v Decisions m = elim m.1 [ inl e ↦ inl (inr e) | inr w ↦ inl (inl w.0.free) ]
-may_phase v Enumerated m = inr m.1
-may_phase v Rattle.search_theory.specs.Events.Analysed m = absurd m
-may_phase v Rattle.search_theory.specs.Events.Justified m = absurd m
-
--- the literals chosen are learned
-pub is_learned : (v v' : Searching) (how : How) → v' ≡ learned_by v → MayLearnNow v how → IsLearned v'
-is_learned v v' how is may = subst (λ (z : Searching). IsLearned z) (sym is) (record {
-  number = length v.nogoods;
-  nogood = get_last v.nogoods (chosen_nogood v);
-  phase_is = phase_jump v.phase (length v.nogoods) (chosen v.stack) (may_phase v how may);
-})
-
--- a set found while literals were chosen is followed by going back
-pub found_jumps : (v v' : Searching) → v' ≡ learned_by v → v.phase ≡ phase.Found → (n : ℕ) × (v'.phase ≡ phase.MustJump n)
-found_jumps v v' is e = (
-  length v.nogoods,
-  ap (λ (z : Searching). z.phase) is
-      ∙ ap (λ z. phase_learned z (length v.nogoods) (chosen v.stack)) e,
-)
+pub kept_learned : (v v' : Searching) (ls : List Lit) → v' ≡ learned_by v ls → IsKept v → IsKept v'
+kept_learned v v' ls is k = subst (λ (z : Searching). IsKept z) (sym is) (kept_with v (learned_by v ls) refl k)
 
 -- ---- a nogood is struck
 
 -- where a strike does not end the search the nogood is not struck at level 0
-not_over : (ph : Phase) (root : Bool) → ¬ (phase_struck ph root ≡ phase.Over) → root ≡ false
-not_over ph true n = absurd (n refl)
-not_over ph false n = refl
+not_over : (n : ℕ) (root : Bool) → ¬ (phase_struck n root ≡ phase.Over) → root ≡ false
+not_over n true other = absurd (other refl)
+not_over n false other = refl
 
 -- where the search isn't over, the nogood isn't struck at level 0
 pub not_root : (v v' : Searching) (n : ℕ) → v' ≡ struck_by v n → ¬ (v'.phase ≡ phase.Over) → all_at_0 v.stack (lits_at v.nogoods n) ≡ false
-not_root v v' n is over = not_over v.phase (all_at_0 v.stack (lits_at v.nogoods n)) (λ e. over (ap (λ (z : Searching). z.phase) is ∙ e))
+not_root v v' n is over = not_over n (all_at_0 v.stack (lits_at v.nogoods n)) (λ e. over (ap (λ (z : Searching). z.phase) is ∙ e))
 
 -- so the search has to learn
-pub must_learn : (v v' : Searching) (n : ℕ) → v' ≡ struck_by v n → v.phase ≡ phase.Free → ¬ (v'.phase ≡ phase.Over)
-    → v'.phase ≡ phase.MustLearn
-must_learn v v' n is e over = ap (λ (z : Searching). z.phase) is ∙ (λ i. phase_struck (e i) (not_root v v' n is over i))
+pub must_learn : (v v' : Searching) (n : ℕ) → v' ≡ struck_by v n → ¬ (v'.phase ≡ phase.Over) → v'.phase ≡ phase.MustLearn n
+must_learn v v' n is over = ap (λ (z : Searching). z.phase) is ∙ ap (phase_struck n) (not_root v v' n is over)
 
 -- and is above level 0, where no nogood is empty
-pub firm_struck : (v v' : Searching) (n : ℕ) → v' ≡ struck_by v n → IsGrounded v → ¬ (v'.phase ≡ phase.Over) → NoneEmpty v'.nogoods
-firm_struck v v' n is grounded over = subst (λ (z : Searching). NoneEmpty z.nogoods) (sym is) (elim grounded [
-  | inl z ↦ (let bad : true ≡ false = sym (all_low v.stack (lits_at v.nogoods n) z)
-      ∙ not_root v v' n is over in absurd (let k : true ≡ false = bad in cc))
-  | inr f ↦ f
-])
-
--- where the nogood just learned was struck, some literal is chosen
-pub struck_some : (v v' : Searching) (n : ℕ) → v' ≡ struck_by v n → slice_get v.nogoods n ≡ Some (chosen_nogood v)
-    → ¬ (v'.phase ≡ phase.Over) → ¬ (chosen v.stack ≡ [])
-struck_some v v' n is at over none =
-    let lits : lits_at v.nogoods n ≡ [] = ap lits_in at ∙ none in
-    let bad : true ≡ false = sym (ap (all_at_0 v.stack) lits) ∙ not_root v v' n is over in
-    cc
+pub firm_struck : (v : Searching) (n : ℕ) → IsGrounded v → ¬ (all_at_0 v.stack (lits_at v.nogoods n) ≡ true) → NoneEmpty v.nogoods
+firm_struck v n (inl z) above = absurd (above (all_low v.stack (lits_at v.nogoods n) z))
+firm_struck v n (inr f) above = f
 
 -- no nogood is empty where an atom stays must-be-true
-pub firm_stuck : (v : Searching) → MoveIs v move.Stuck → NoneEmpty v.nogoods
-firm_stuck v next = none_empty v.stack v.nogoods next.0.none_struck
+pub firm_stuck : (v : Searching) (x : ℕ) → MoveIs v (move.Stuck x) → NoneEmpty v.nogoods
+firm_stuck v x next = none_empty v.stack v.nogoods next.0.none_struck
 
 -- nor where a set is found
 pub firm_full : (v : Searching) → MoveIs v move.Full → NoneEmpty v.nogoods
@@ -226,27 +174,13 @@ firm_full v next = none_empty v.stack v.nogoods next.0.none_struck
 
 -- ---- the search goes on
 
--- the search went back after the literals chosen were learned
-pub again : (v v1 v2 v' : Searching) → v1.core ≡ v.core → v1.stack ≡ v.stack → v1.nogoods ≡ v.nogoods → v2 ≡ learned_by v1
-    → v' ≡ gone_back v2 → ¬ (chosen v1.stack ≡ []) → NoneEmpty v1.nogoods → IsKept v1
-    → ids v1 < 2 ^ 32 → Again v v'
-again v v1 v2 v' core stack nogoods learned back some firm kept few =
-    let is : v' ≡ gone_back (learned_by v1) = back ∙ ap gone_back learned in
-    record {
-      core = ap (λ (z : Searching). z.core) is ∙ core;
-      ready = subst (λ (z : Searching). IsReady z) (sym is) (record {
-        kept = kept_back (learned_by v1) (jump_of v1.stack) (kept_learned v1 (learned_by v1) refl kept);
-        free = refl;
-        grounded = inr (λ ng i e. elim (∈-append_cases ng v1.nogoods (chosen_nogood v1 ∷ []) i) [
-          | inl j ↦ firm ng j e
-          | inr j ↦ some (sym (ap (λ (z : Nogood). z.lits) (in_single j)) ∙ e)
-        ]);
-      });
-      learned = ap (λ (z : Searching). z.nogoods) is ∙ (λ i. nogoods i ++ record { lits = chosen (stack i); head = None } ∷ []);
-      some = λ none. some (ap chosen stack ∙ none);
-      low = subst (λ st. (l : Lit) → l ∈ chosen st → l.atom < 2 ^ 32) stack
-          (λ l i. let k = chosen_below v1.stack (ids v1) kept.placed l i in omega (arith, k, few));
-    }
+-- the search went back after something was learned or kept
+pub again : (v v1 v' : Searching) (level : ℕ) → v1.core ≡ v.core → v' ≡ taken_back v1 level → NoneEmpty v1.nogoods → IsKept v1 → Again v v'
+again v v1 v' level core back firm kept = record {
+  core = ap (λ (z : Searching). z.core) back ∙ core;
+  ready = subst (λ (z : Searching). IsReady z) (sym back)
+      (record { kept = kept_back v1 level kept; free = refl; grounded = inr firm });
+}
 
 -- ---- faults after a part of a round
 
@@ -269,65 +203,112 @@ fault_same v v1 told told1 told' rest before mid now fault core later carried f 
   cause = cause_on before mid now fault later f.cause;
 }
 
+-- a fault of noting after such events
+pub fault_then : (v v1 : Searching) (told told1 told' : Option outside.Journal) (before mid now : ℕ) (fault : SearchFault)
+    → v1.core ≡ v.core → before ≤ mid → Carried v v1 told told1 0 → IsTraceFault v1 told1 told' mid now fault
+    → IsTraceFault v told told' before now fault
+fault_then v v1 told told1 told' before mid now fault core later carried f = record {
+  halts = λ g fits held left rest room s. f.halts g (core ∙ fits) held left rest room
+      (carried_same v v1 told told1 held left rest carried g fits s);
+  cause = cause_on before mid now fault later f.cause;
+}
+
 -- ---- a round
 
--- the nogood of this number is that of the literals chosen
-struck_number : Phase → ℕ
-struck_number (phase.MustStrike n) = n
-struck_number _ = 0
+-- events that strike nothing, after others
+pub carried_on : (v v1 v2 : Searching) (told told1 told2 : Option outside.Journal) → v1.core ≡ v.core → Carried v v1 told told1 0
+    → Carried v1 v2 told1 told2 0 → Carried v v2 told told2 0
+carried_on v v1 v2 told told1 told2 core first next held left rest g fits s =
+    carried_same v1 v2 told1 told2 held left rest next g (core ∙ fits) (first held left rest g fits s)
 
--- the nogood to be struck is that of the literals chosen
-pub learned_at : (v : Searching) → IsLearned v → (n : ℕ) → v.phase ≡ phase.MustStrike n → slice_get v.nogoods n ≡ Some (chosen_nogood v)
-unfolding struck_number
-learned_at v l n e = elim l.phase_is [
-  | inl q ↦ subst (λ k. slice_get v.nogoods k ≡ Some (chosen_nogood v)) (ap struck_number (sym q ∙ e)) l.nogood
-  | inr w ↦ absurd (let bad : phase.MustJump l.number ≡ phase.MustStrike n = sym w.0 ∙ e in cc)
-]
+-- events that leave as many strikes strike nothing
+pub justified_carried : (v v' : Searching) (told told' : Option outside.Journal)
+    → ((held : Option (List ℕ)) (left rest : ℕ) → Carries v v' told told' held held (left, rest) (left, rest)) → Carried v v' told told' 0
+justified_carried v v' told told' carries held left rest g fits s =
+    let same : rest + 0 ≡ rest = omega arith in
+    carries held left rest g fits (subst (λ z. Stands g v told held left z) same s)
 
--- after going back the search is below the last literal chosen
-pub settled_back : (r : Result (Option Finish) SearchFault) (v v1 v2 : Searching) (told told1 told2 : Option outside.Journal)
-    (rest rest' : ℕ) → v1.core ≡ v.core → gone_back v1 ≡ gone_back v → ¬ (chosen v.stack ≡ [])
-    → ((held : Option (List ℕ)) (left : ℕ) → Carries v v1 told told1 held held (left, rest) (left, rest'))
-    → IfOk r (λ end. end ≡ None) → OnOk r (v2 ≡ gone_back v1) → OnOk r (Carried v1 v2 told1 told2 0)
-    → IfOk r (Settled v v2 told told2 rest rest')
-settled_back (Ok end) v v1 v2 told told1 told2 rest rest' core same some carries none back carried =
-    subst (Settled v v2 told told2 rest rest') (sym none) (
-      back ∙ same,
-      some,
-      λ held left g fits s. carried_same v1 v2 told1 told2 held left rest' carried g (core ∙ fits) (carries held left g fits s),
-    )
-settled_back (Err f) v v1 v2 told told1 told2 rest rest' core same some carries none back carried = tt
+-- the search went back after such events
+pub turned_back : (v v1 v2 : Searching) (told told1 told2 : Option outside.Journal) (level : ℕ) → v1.core ≡ v.core → v2 ≡ taken_back v1 level
+    → NoneEmpty v1.nogoods → IsKept v1 → Carried v v1 told told1 0 → Carried v1 v2 told1 told2 0 → (rest : ℕ)
+    → Turned v v2 told told2 rest rest None
+turned_back v v1 v2 told told1 told2 level core back firm kept first next rest = (
+  again v v1 v2 level core back firm kept,
+  λ held left g fits s. carried_same v v2 told told2 held left rest (carried_on v v1 v2 told told1 told2 core first next) g fits s,
+)
 
--- after it was settled the search is ready again
-pub rounds_settled : (r : Result (Option Finish) SearchFault) (v v1 v2 v3 : Searching) (told told2 told3 : Option outside.Journal)
-    (rest rest2 rest3 : ℕ) → v1.core ≡ v.core → v1.stack ≡ v.stack → v1.nogoods ≡ v.nogoods → v2 ≡ learned_by v1
-    → NoneEmpty v1.nogoods → IsKept v1 → ids v1 < 2 ^ 32
-    → ((held : Option (List ℕ)) (left : ℕ) → Carries v v2 told told2 held held (left, rest) (left, rest2))
-    → IfOk r (Settled v2 v3 told2 told3 rest2 rest3) → IfOk r (Rounds v v3 told told3 rest rest3)
-rounds_settled (Ok None) v v1 v2 v3 told told2 told3 rest rest2 rest3 core stack nogoods learned firm kept few carries p =
-    let same : v2.core ≡ v.core = ap (λ (z : Searching). z.core) learned ∙ core in (
-      again v v1 v2 v3 core stack nogoods learned p.0 (λ none. p.1 (ap (λ (z : Searching). chosen z.stack) learned ∙ none)) firm kept few,
-      λ held left g fits s. p.2 held left g (same ∙ fits) (carries held left g fits s),
-    )
-rounds_settled (Ok (Some how)) v v1 v2 v3 told told2 told3 rest rest2 rest3 core stack nogoods learned firm kept few carries p =
-    let same : v2.core ≡ v.core = ap (λ (z : Searching). z.core) learned ∙ core in
-    λ held left g fits room s. p held left g (same ∙ fits) room (carries held left g fits s)
-rounds_settled (Err f) v v1 v2 v3 told told2 told3 rest rest2 rest3 core stack nogoods learned firm kept few carries p = tt
+-- what holds whatever may still be struck holds for so many
+pub turned_for : (r : Result (Option Finish) SearchFault) (v v' : Searching) (told told' : Option outside.Journal) (rest : ℕ)
+    → IfOk r (λ end. (rest : ℕ) → Turned v v' told told' rest rest end) → IfOk r (Turned v v' told told' rest rest)
+turned_for (Ok end) v v' told told' rest p = p rest
+turned_for (Err f) v v' told told' rest p = tt
 
--- so it is after a set
-pub outcome_back : (r : Result (Option Finish) SearchFault) (v v2 v3 : Searching) (told told2 told3 : Option outside.Journal) (left : ℕ)
-    → v2 ≡ learned_by v → NoneEmpty v.nogoods → IsKept v → ids v < 2 ^ 32 → ¬ (chosen v.stack ≡ []) → ¬ (left ≡ 0)
-    → Carried v v2 told told2 0 → IfOk r (λ end. end ≡ None) → OnOk r (v3 ≡ gone_back v2) → OnOk r (Carried v2 v3 told2 told3 0)
-    → IfOk r (λ end. (book : List (List ℕ)) (held : Option (List ℕ)) (rest : ℕ) → Outcome book v v3 told told3 held held (left, rest) (left, rest) end)
-outcome_back (Ok end) v v2 v3 told told2 told3 left learned firm kept few some room carried none back carried' =
-    subst (λ end. (book : List (List ℕ)) (held : Option (List ℕ)) (rest : ℕ) → Outcome book v v3 told told3 held held (left, rest) (left, rest) end)
-    (sym none) (λ book held rest. (
-      again v v v2 v3 refl refl refl learned back some firm kept few,
-      omega (arith, room),
-      λ g fits lists s. carried_same v2 v3 told2 told3 held left rest carried' g (ap (λ (z : Searching). z.core) learned ∙ fits)
-          (carried_same v v2 told told2 held left rest carried g fits s),
-    ))
-outcome_back (Err f) v v2 v3 told told2 told3 left learned firm kept few some room carried none back carried' = tt
+-- a round after events that strike nothing is one with them
+pub rounds_after : (r : Result (Option Finish) SearchFault) (v v1 v2 : Searching) (told told1 told2 : Option outside.Journal) (rest rest' : ℕ)
+    → v1.core ≡ v.core → Carried v v1 told told1 0 → IfOk r (Rounds v1 v2 told1 told2 rest rest') → IfOk r (Rounds v v2 told told2 rest rest')
+rounds_after (Ok None) v v1 v2 told told1 told2 rest rest' core carried p = (
+  p.0,
+  (
+    record { core = p.1.0.core ∙ core; ready = p.1.0.ready },
+    λ held left g fits s. p.1.1 held left g (core ∙ fits) (carried_same v v1 told told1 held left rest carried g fits s),
+  ),
+)
+rounds_after (Ok (Some how)) v v1 v2 told told1 told2 rest rest' core carried p =
+    λ held left g fits room s. p held left g (core ∙ fits) room (carried_same v v1 told told1 held left rest carried g fits s)
+rounds_after (Err f) v v1 v2 told told1 told2 rest rest' core carried p = tt
+
+-- what comes after a strike is a round with it
+pub rounds_struck : (r : Result (Option Finish) SearchFault) (v v1 v2 : Searching) (told told1 told2 : Option outside.Journal) (rest rest' : ℕ)
+    → v1.core ≡ v.core → ¬ (rest ≡ 0) → rest' ≤ rest - 1 → Carried v v1 told told1 1 → IfOk r (Turned v1 v2 told1 told2 (rest - 1) rest')
+    → IfOk r (Rounds v v2 told told2 rest rest')
+rounds_struck (Ok None) v v1 v2 told told1 told2 rest rest' core some fewer carried p = (
+  omega (arith, some, fewer),
+  (
+    record { core = p.0.core ∙ core; ready = p.0.ready },
+    λ held left g fits s. p.1 held left g (core ∙ fits) (carried_less v v1 told told1 held left rest carried some g fits s),
+  ),
+)
+rounds_struck (Ok (Some how)) v v1 v2 told told1 told2 rest rest' core some fewer carried p =
+    λ held left g fits room s. p held left g (core ∙ fits) room (carried_less v v1 told told1 held left rest carried some g fits s)
+rounds_struck (Err f) v v1 v2 told told1 told2 rest rest' core some fewer carried p = tt
+
+-- a round turns the search
+pub rounds_turn : (r : Result (Option Finish) SearchFault) (v v' : Searching) (told told' : Option outside.Journal) (rest rest' : ℕ)
+    → IfOk r (Rounds v v' told told' rest rest') → IfOk r (Turned v v' told told' rest rest')
+rounds_turn (Ok None) v v' told told' rest rest' p = p.1
+rounds_turn (Ok (Some how)) v v' told told' rest rest' p = p
+rounds_turn (Err f) v v' told told' rest rest' p = tt
+
+-- a round leaves less to come
+pub rounds_outcome : (book : List (List ℕ)) (r : Result (Option Finish) SearchFault) (v v' : Searching) (told told' : Option outside.Journal)
+    (held : Option (List ℕ)) (left rest rest' : ℕ) → 0 < left → IfOk r (Rounds v v' told told' rest rest')
+    → IfOk r (Outcome book v v' told told' held held (left, rest) (left, rest'))
+rounds_outcome book (Ok None) v v' told told' held left rest rest' room p =
+    (p.1.0, room, inl p.0, λ g fits lists s. p.1.1 held left g fits s)
+rounds_outcome book (Ok (Some how)) v v' told told' held left rest rest' room p = λ g fits lists s. p held left g fits room s
+rounds_outcome book (Err f) v v' told told' held left rest rest' room p = tt
+
+-- after a set the literals chosen were learned, and the search went back
+pub outcome_back : (v v2 v3 : Searching) (told told2 told3 : Option outside.Journal) (left level : ℕ) → v2 ≡ learned_by v (chosen v.stack)
+    → NoneEmpty v.nogoods → IsKept v → ids v < 2 ^ 32 → ¬ (chosen v.stack ≡ []) → ¬ (left ≡ 0) → Carried v v2 told told2 0
+    → v3 ≡ taken_back v2 level → Carried v2 v3 told2 told3 0
+    → (book : List (List ℕ)) (held : Option (List ℕ)) (rest : ℕ) → Outcome book v v3 told told3 held held (left, rest) (left, rest) None
+outcome_back v v2 v3 told told2 told3 left level learned firm kept few some room carried back carried' book held rest = (
+  again v v2 v3 level (ap (λ (z : Searching). z.core) learned) back
+      (subst (λ (z : Searching). NoneEmpty z.nogoods) (sym learned) (none_empty_more v.nogoods (chosen v.stack) some firm))
+      (kept_learned v v2 (chosen v.stack) learned kept),
+  omega (arith, room),
+  inr (
+    refl,
+    record {
+      learned = ap (λ (z : Searching). z.nogoods) back ∙ ap (λ (z : Searching). z.nogoods) learned;
+      some = some;
+      low = λ l i. let k = chosen_below v.stack (ids v) kept.placed l i in omega (arith, k, few);
+    },
+  ),
+  λ g fits lists s. carried_same v2 v3 told2 told3 held left rest carried' g (ap (λ (z : Searching). z.core) learned ∙ fits)
+      (carried_same v v2 told told2 held left rest carried g fits s),
+)
 
 -- ---- whether a literal is chosen
 
@@ -359,16 +340,23 @@ leaves_fault v told told' rest before now sink OutOfMemory f g fits held left ro
 module _ (book : List (List ℕ)) (v v1 : Searching) (told told1 : Option outside.Journal) (held held1 : Option (List ℕ)) (left less : ℕ)
     (is : (let w : Searching = record v { phase = phase.Found } in v1 ≡ w))
     (carries : (rest : ℕ) → CarriesOver book v v1 told told1 held held1 (left, rest) (less, rest)) where
+  -- there is less to come than before it was
+  less_on : (v' : Searching) (rest : ℕ) → IsLess v1 v' rest rest → IsLess v v' rest rest
+  less_on v' rest (inl fewer) = inl fewer
+  less_on v' rest (inr same) =
+      let h : HasLearnedChosen (record v { phase = phase.Found }) v' = subst (λ (z : Searching). HasLearnedChosen z v') is same.1 in
+      inr (refl, record { learned = h.learned; some = h.some; low = h.low })
+
   -- a set was found, and the round went on
   pub found_outcome : (r : Result (Option Finish) SearchFault) (v' : Searching) (told' : Option outside.Journal) (rest : ℕ)
       → IfOk r (λ end. (book : List (List ℕ)) (held : Option (List ℕ)) (rest : ℕ) → Outcome book v1 v' told1 told' held held (less, rest) (less, rest) end)
       → IfOk r (Outcome book v v' told told' held held1 (left, rest) (less, rest))
   found_outcome (Ok None) v' told' rest p =
-      let w = p book held1 rest in
-      let a : Again (record v { phase = phase.Found }) v' = subst (λ (z : Searching). Again z v') is w.0 in (
-        record { core = a.core; ready = a.ready; learned = a.learned; some = a.some; low = a.low },
+      let w = p book held1 rest in (
+        record { core = w.0.core ∙ ap (λ (z : Searching). z.core) is; ready = w.0.ready },
         w.1,
-        λ g fits lists s. w.2 g (ap (λ (z : Searching). z.core) is ∙ fits) lists (carries rest g fits lists s),
+        less_on v' rest w.2,
+        λ g fits lists s. w.3 g (ap (λ (z : Searching). z.core) is ∙ fits) lists (carries rest g fits lists s),
       )
   found_outcome (Ok (Some how)) v' told' rest p =
       λ g fits lists s. p book held1 rest g (ap (λ (z : Searching). z.core) is ∙ fits) lists (carries rest g fits lists s)

@@ -12,12 +12,12 @@ use Rattle.search_values.specs.Nogoods.{Nogood}
 use Rattle.search_values.specs.Instances.{Kind, Plain, Choice, Constraint, Instance, Rules}
 use Rattle.search_values.specs.Tables.{Made, BodyFits, lits_of, once, set_of, each_with, with_body, table_of}
 use Rattle.search_values.specs.Ids.{AtomNode, Named, BodyOf}
-use Rattle.search_theory.specs.States.{IsName, IsSettled, IsFull}
+use Rattle.journal_theory.specs.States.{IsName, IsSettled, IsFull}
 use Rattle.search_values.proofs.Basics.{get_in, value_cases, nat_eq-true}
 use Rattle.search_values.proofs.Tables.{nogood, Clash, set_of-or_clash}
-use Rattle.search_theory.proofs.Stack.{Good}
-use Rattle.search_theory.proofs.Meaning.{OfAtom, OfBody, Known}
-use Rattle.search_theory.proofs.Central.{GoodMade, Valid, names_in}
+use Rattle.journal_theory.proofs.Stack.{Good}
+use Rattle.journal_theory.proofs.Meaning.{OfAtom, OfBody, Known}
+use Rattle.journal_theory.proofs.Central.{GoodMade, Valid, names_in}
 use Rattle.core_meaning.specs.Atoms.{GroundAtom}
 use Rattle.search_rules.specs.Tests.{Maker}
 use Rattle.search_rules.specs.Rules.{Numbers, Reached}

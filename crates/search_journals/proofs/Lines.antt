@@ -15,11 +15,11 @@ use Rattle.core_meaning.specs.Atoms.{GroundAtom, User}
 use Rattle.core_meaning.specs.AnswerSets.{HasUserAtoms}
 use Rattle.search_values.specs.Instances.{IsAnswerUnder}
 use Rattle.search_values.specs.Ids.{AtomNode, Named, Names}
-use Rattle.search_theory.specs.States.{IsName, AreUserAtoms}
-use Rattle.search_theory.specs.Laws.{NoneTwice}
+use Rattle.journal_theory.specs.States.{IsName, AreUserAtoms}
+use Rattle.journal_theory.specs.Laws.{NoneTwice}
 use Rattle.search_values.proofs.Basics.{in_single}
-use Rattle.search_theory.proofs.Central.{names_in}
-use Rattle.search_theory.proofs.Instances.{names_back}
+use Rattle.journal_theory.proofs.Central.{names_in}
+use Rattle.journal_theory.proofs.Instances.{names_back}
 use Rattle.search_rules.specs.Rules.{Reached, search_rules}
 use Rattle.search_rules.specs.Stage.{IsSearchable}
 use Rattle.search_rules.proofs.CoreSets.{found_are_core_sets}

@@ -12,15 +12,15 @@ use Rattle.core_meaning.specs.Atoms.{GroundAtom, User}
 use Rattle.core_meaning.specs.AnswerSets.{HasUserAtoms}
 use Rattle.search_values.specs.Ids.{Named, Names}
 use Rattle.search_values.specs.Instances.{Rules}
-use Rattle.search_theory.specs.States.{State, IsName, IsFull, AreUserAtoms, AreTrueUserAtoms, IsSetOf}
-use Rattle.search_theory.specs.Events.{Event, NameTerm, NameAtom, NameBody, Number, Make, Put, Choose, Close, Strike, Learn, Justify, Back, Show, Pass, happens, Allowed}
-use Rattle.search_theory.specs.Journals.{Legal, replay}
-use Rattle.search_theory.proofs.Central.{names_in}
-use Rattle.search_theory.proofs.Events.{legal_safe}
-use Rattle.search_theory.proofs.Growing.{event_later}
-use Rattle.search_theory.proofs.Instances.{names_back}
-use Rattle.search_theory.proofs.LawProofs.{full_is_answer_set}
-use Rattle.search_theory.proofs.Meaning.{Grows}
+use Rattle.journal_theory.specs.States.{State, IsName, IsFull, AreUserAtoms, AreTrueUserAtoms, IsSetOf}
+use Rattle.journal_theory.specs.Events.{Event, NameTerm, NameAtom, NameBody, Number, Make, Put, Choose, Close, Strike, Keep, Learn, Justify, CallWide, Back, Show, Pass, happens, Allowed}
+use Rattle.journal_theory.specs.Journals.{Legal, replay}
+use Rattle.journal_theory.proofs.Central.{names_in}
+use Rattle.journal_theory.proofs.Events.{legal_safe}
+use Rattle.journal_theory.proofs.Growing.{event_later}
+use Rattle.journal_theory.proofs.Instances.{names_back}
+use Rattle.journal_theory.proofs.LawProofs.{full_is_answer_set}
+use Rattle.journal_theory.proofs.Meaning.{Grows}
 use Rattle.search_rules.specs.Rules.{Reached, search_rules}
 use Rattle.search_journals.specs.Journals.{Step, IsLineOfIds}
 use Rattle.search_journals.specs.Search.{IsAmong, core_sets}
@@ -137,8 +137,10 @@ passed_now core sets s (Put a v n) ok ids i = inl i
 passed_now core sets s (Choose b up) ok ids i = inl i
 passed_now core sets s (Close x) ok ids i = inl i
 passed_now core sets s (Strike n) ok ids i = inl i
+passed_now core sets s (Keep n) ok ids i = inl i
 passed_now core sets s (Learn how ls) ok ids i = inl i
-passed_now core sets s (Justify atoms ls) ok ids i = inl i
+passed_now core sets s (Justify patterns ls) ok ids i = inl i
+passed_now core sets s (CallWide x) ok ids i = inl i
 passed_now core sets s (Back l) ok ids i = inl i
 passed_now core sets s (Show k) ok ids i = inl i
 

@@ -9,7 +9,7 @@ use Rattle.search_values.specs.declared.entry.Why.TheVariants.{Given, Chosen, Cl
 use Rattle.search_values.specs.declared.entry.Entry.{Entry}
 use Rattle.search_values.specs.Values.{value_of, opened, level_of, back_to, entry_on}
 use Rattle.search_values.specs.Nogoods.{Nogood, NoneStruck, Gives}
-use Rattle.search_theory.specs.Laws.{NoneEmpty}
+use Rattle.journal_theory.specs.Laws.{NoneEmpty}
 use Rattle.trail.specs.Assigning.{MayBecome, MayClose, IsStackOf, full_by}
 use Rattle.ground_noting.specs.declared.telling.Told.{Told}
 use Rattle.search_state.specs.Searching.{Searching, ids, assigned, taken_back}

@@ -1,22 +1,24 @@
 -- Round after round: each leaves less to learn, and what they carry on is carried on.
-use Rattle.std.proofs.Common.{◌≡◌, ℕ, ◌<◌, ◌≤◌, Bool, true, false, List, [], sym, ◌∙◌, ap, subst, inl, arith}
+use Rattle.std.proofs.Common.{◌≡◌, ℕ, zero, suc, ◌+◌, ◌<◌, ◌≤◌, Bool, true, false, cond, List, [], ◌∷◌, length, sym, ◌∙◌, ap, subst, inl, inr, arith}
 use Rattle.std.specs.Prelude.{Option, Some, None}
+use Rattle.std.specs.List.{list_any}
+use Rattle.alpha_outside.specs.declared.literal.Lit.{Lit}
 use Rattle.lists.specs.Lists.{◌∈◌, ◌⊆◌}
 use Rattle.alpha_outside.specs.Outside as outside
 use Rattle.alpha_outside.specs.declared.literal.Value.{Value}
 use Rattle.search_values.specs.Values.{is_up, lit, value_of, chosen, Holds}
 use Rattle.search_values.specs.Nogoods.{Nogood}
-use Rattle.search_theory.specs.States.{State, Free}
-use Rattle.search_theory.specs.Journals.{replay}
+use Rattle.journal_theory.specs.States.{State, Free}
+use Rattle.journal_theory.specs.Journals.{replay}
 use Rattle.search_values.specs.declared.entry.Entry.{Entry}
-use Rattle.search_theory.proofs.Fresh.{superset_of_none}
+use Rattle.journal_theory.proofs.Fresh.{superset_of_none}
 use Rattle.search_state.specs.Searching.{Searching}
 use Rattle.search_rules.specs.Rules.{Reached, search_rules}
-use Rattle.search_journals.specs.Measures.{id_count, candidates, still_open}
+use Rattle.search_journals.specs.Measures.{id_count, candidates, blocks, open_of, still_open, rounds_left}
 use Rattle.search_journals.specs.Runs.{Runs}
 use Rattle.search_journals.specs.Standing as standing
 use Rattle.search_journals.specs.Standing.{Carries, CarriesOver, Leaves}
-use Rattle.search_journals.specs.Settling.{Again, StandsSomewhere, EndsFrom, LeavesFrom}
+use Rattle.search_journals.specs.Settling.{HasLearnedChosen, IsLess, StandsSomewhere, EndsFrom, LeavesFrom}
 use Rattle.search_journals.specs.declared.ends.SearchFault.{SearchFault}
 use Rattle.search_journals.specs.declared.ends.SearchFault.TheVariants.{WriteFault, TraceFault, OutOfMemory}
 use Rattle.search_journals.specs.declared.ends.Finish.{Finish}
@@ -39,10 +41,31 @@ holds_once stack x h k =
     let bad : true ≡ false = sym a ∙ b in
     cc
 
--- a round leaves less to learn
-pub round_falls : (book : List (List ℕ)) (v v1 v2 : Searching) (told told1 : Option outside.Journal) (held : Option (List ℕ)) (left rest : ℕ)
-    → StandsSomewhere book v told held left rest → Runs v v1 told told1 → Again v1 v2 → still_open v2.nogoods < still_open v.nogoods
-round_falls book v v1 v2 told told1 held left rest somewhere runs again =
+-- no more sets of literals are open than there are
+open_few : (ngs : List Nogood) (ks : List (List Lit)) → open_of ngs ks ≤ length ks
+open_few ngs [] = omega arith
+open_few ngs (k ∷ ks) = one (list_any (blocks k) ngs) (open_few ngs ks)
+  where
+    one : (b : Bool) → open_of ngs ks ≤ length ks → cond b 0 1 + open_of ngs ks ≤ suc (length ks)
+    one true h = omega (arith, h)
+    one false h = omega (arith, h)
+
+-- where fewer nogoods may be struck there is less to come
+fewer_strikes : (r' r n' n : ℕ) → r' < r → n' ≤ length (candidates id_count) → rounds_left r' n' < rounds_left r n
+fewer_strikes zero zero n' n low few = absurd (omega (arith, low))
+fewer_strikes zero (suc r) n' n low few = omega (arith, few)
+fewer_strikes (suc r') zero n' n low few = absurd (omega (arith, low))
+fewer_strikes (suc r') (suc r) n' n low few = let less = fewer_strikes r' r n' n (omega (arith, low)) few in omega (arith, less)
+
+-- and so where as many may be, and fewer sets of literals
+fewer_sets : (r n' n : ℕ) → n' < n → rounds_left r n' < rounds_left r n
+fewer_sets zero n' n low = low
+fewer_sets (suc r) n' n low = let less = fewer_sets r n' n low in omega (arith, less)
+
+-- after literals chosen were learned there are fewer
+sets_fall : (book : List (List ℕ)) (v v1 v2 : Searching) (told told1 : Option outside.Journal) (held : Option (List ℕ)) (left rest : ℕ)
+    → StandsSomewhere book v told held left rest → Runs v v1 told told1 → HasLearnedChosen v1 v2 → still_open v2.nogoods < still_open v.nogoods
+sets_fall book v v1 v2 told told1 held left rest somewhere runs learned =
     let g = somewhere.given in
     let s = runs.carries held left rest g somewhere.fits somewhere.stands in
     let known = told_at g v1 told1 held left rest s.0 s.1 in
@@ -54,9 +77,20 @@ round_falls book v v1 v2 told told1 held left rest somewhere runs again =
     let none : (ng : Nogood) → ng ∈ v1.nogoods → ng.lits ⊆ chosen v1.stack
     → ng.lits ≡ [] = subst (λ (z : Reached). (ng : Nogood) → ng ∈ z.nogoods → ng.lits ⊆ chosen z.stack → ng.lits ≡ []) (sym s.1.is)
     (λ ng i sub. superset_of_none (search_rules g.core) r known.valid known.bodies known.newly (inl free) ng i sub) in
-    let less = learned_falls v1.nogoods v2.nogoods (chosen v1.stack) again.learned again.some one again.low none in
+    let less = learned_falls v1.nogoods v2.nogoods (chosen v1.stack) learned.learned learned.some one learned.low none in
     let before = open_less v.nogoods v1.nogoods runs.stays (candidates id_count) in
     omega (arith, less, before)
+
+-- a round leaves less to come
+pub round_falls : (book : List (List ℕ)) (v v1 v2 : Searching) (told told1 : Option outside.Journal) (held : Option (List ℕ)) (left rest rest' : ℕ)
+    → StandsSomewhere book v told held left rest → Runs v v1 told told1 → IsLess v1 v2 rest rest'
+    → rounds_left rest' (still_open v2.nogoods) < rounds_left rest (still_open v.nogoods)
+round_falls book v v1 v2 told told1 held left rest rest' somewhere runs (inl fewer) =
+    fewer_strikes rest' rest (still_open v2.nogoods) (still_open v.nogoods) fewer (open_few v2.nogoods (candidates id_count))
+round_falls book v v1 v2 told told1 held left rest rest' somewhere runs (inr same) =
+    subst (λ n. rounds_left n (still_open v2.nogoods) < rounds_left rest (still_open v.nogoods)) (sym same.0)
+    (fewer_sets rest (still_open v2.nogoods) (still_open v.nogoods)
+    (sets_fall book v v1 v2 told told1 held left rest somewhere runs same.1))
 
 -- ---- what rounds carry on
 

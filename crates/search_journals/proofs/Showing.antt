@@ -15,14 +15,14 @@ use Rattle.alpha_outside.specs.declared.stops.SinkStop.TheVariants as stop
 use Rattle.search_values.specs.Values.{value_of}
 use Rattle.search_values.specs.Instances.{Constraint}
 use Rattle.search_values.specs.Tables.{Made}
-use Rattle.search_theory.specs.States as phase
+use Rattle.journal_theory.specs.States as phase
 use Rattle.search_values.specs.Ids.{BodyOf, Names}
-use Rattle.search_theory.specs.States.{State, IsName, IsSettled, IsFull, AreTrueUserAtoms, IsSetOf}
-use Rattle.search_theory.specs.Events.{Show, Pass, Allowed}
-use Rattle.search_theory.specs.Journals.{replay}
-use Rattle.search_theory.proofs.Events.{legal_safe}
-use Rattle.search_theory.proofs.BodyNames.{legal_body_names}
-use Rattle.search_theory.proofs.FoundOnce.{found_is_new}
+use Rattle.journal_theory.specs.States.{State, IsName, IsSettled, IsFull, AreTrueUserAtoms, IsSetOf}
+use Rattle.journal_theory.specs.Events.{Show, Pass, Allowed}
+use Rattle.journal_theory.specs.Journals.{replay}
+use Rattle.journal_theory.proofs.Events.{legal_safe}
+use Rattle.journal_theory.proofs.BodyNames.{legal_body_names}
+use Rattle.journal_theory.proofs.FoundOnce.{found_is_new}
 use Rattle.core_meaning.specs.Atoms.{GroundAtom, User}
 use Rattle.search_rules.specs.Tests.{Maker}
 use Rattle.search_rules.specs.Stage.{IsSearchable}
@@ -185,6 +185,7 @@ carries_show book v v' told told' held held' xs line ready next are line_is out 
       s.1.legal,
       may_show g v told held (left + 1) rest s.0 fits s.1 ready next xs are line line_is (subst (λ b. ¬ (line ∈ b)) (sym lists) out),
     );
+    far = s.1.far;
     is = ap state_of is ∙ ap (λ (z : Reached). let w : Reached = record z { phase = phase.Found } in w) s.1.is;
     tells = tells_on g.core g.told told told' s.0 (Show xs) (say.Shown xs) s.1.tells refl t;
     hands = record {
@@ -215,6 +216,7 @@ carries_pass book v v' told told' held xs line ready next are line_is among is t
       s.1.legal,
       may_pass g v told held left rest s.0 fits s.1 ready next xs are line line_is (subst (λ b. line ∈ b) (sym lists) among),
     );
+    far = s.1.far;
     is = ap state_of is ∙ ap (λ (z : Reached). let w : Reached = record z { phase = phase.Found } in w) s.1.is;
     tells = tells_on g.core g.told told told' s.0 (Pass xs) (say.Passed xs) s.1.tells refl t;
     hands = record {

@@ -5,9 +5,10 @@ use Rattle.alpha_outside.specs.declared.event.Event as event
 use Rattle.alpha_outside.specs.Outside as outside
 use Rattle.alpha_outside.specs.Outside.{with_event, Rose}
 use Rattle.search_values.specs.Ids.{AtomNode, Named, BodyOf, Names}
-use Rattle.search_theory.specs.States.{State}
-use Rattle.search_theory.specs.Events.{NameTerm, NameAtom, NameBody, Number, Make, Put, Choose, Close, Strike, Learn, Justify, Back, Show, Pass, happens, Allowed}
-use Rattle.search_theory.specs.Journals.{Says, replay}
+use Rattle.journal_theory.specs.States.{State}
+use Rattle.journal_theory.specs.Events.{NameTerm, NameAtom, NameBody, Number, Make, Put, Choose, Close, Strike, Keep, Learn, Justify, CallWide, Back, Show, Pass, happens, Allowed}
+use Rattle.journal_theory.specs.Journals.{Says, replay}
+use Rattle.journal_theory.specs.Laws.{EachBackIsFar}
 use Rattle.std.proofs.lemmas.List.{length-map}
 use Rattle.search_values.proofs.Basics.{get_left}
 use Rattle.core_rules.specs.declared.rules.Core.{Core}
@@ -18,7 +19,7 @@ use Rattle.search_journals.specs.Journals.{Step, Tells, AreLinesOf, strikes, mak
 use Rattle.search_journals.specs.Standing.{Given, StandsAt, Stands, Fits, Carries, Halts, Hands, IsInside, IsTraceFault, IsRoundFault, IsTraceCause, unlisted, listed}
 use Rattle.search_journals.specs.declared.ends.SearchFault.{SearchFault}
 use Rattle.search_journals.specs.declared.ends.SearchFault.TheVariants.{WriteFault, TraceFault, OutOfMemory}
-use Rattle.search_journals.proofs.Unlisted.{ShowsNone, allowed_on, unlisted_next, says_on}
+use Rattle.search_journals.proofs.Unlisted.{ShowsNone, IsSimple, simple_shows, allowed_on, unlisted_next, says_on}
 use Rattle.search_journals.proofs.Telling.{tells_on}
 
 -- ---- names that grow
@@ -55,8 +56,10 @@ names_kept core s (Put a v m) x n there = there
 names_kept core s (Choose b up) x n there = there
 names_kept core s (Close y) x n there = there
 names_kept core s (Strike m) x n there = there
+names_kept core s (Keep m) x n there = there
 names_kept core s (Learn how ls) x n there = there
-names_kept core s (Justify atoms ls) x n there = there
+names_kept core s (Justify patterns ls) x n there = there
+names_kept core s (CallWide y) x n there = there
 names_kept core s (Back l) x n there = there
 names_kept core s (Show ids) x n there = there
 names_kept core s (Pass ids) x n there = there
@@ -74,8 +77,10 @@ shown_same core s (Put a v n) w = refl
 shown_same core s (Choose b up) w = refl
 shown_same core s (Close x) w = refl
 shown_same core s (Strike n) w = refl
+shown_same core s (Keep n) w = refl
 shown_same core s (Learn how ls) w = refl
-shown_same core s (Justify atoms ls) w = refl
+shown_same core s (Justify patterns ls) w = refl
+shown_same core s (CallWide x) w = refl
 shown_same core s (Back l) w = refl
 shown_same core s (Show ids) w = absurd w
 shown_same core s (Pass ids) w = refl
@@ -93,6 +98,26 @@ hands_same g held journal e w h =
       bytes = h.bytes;
     }
 
+-- the levels that were taken away were so as far as before
+far_on : (core : Core) (e : Step) (journal : List Step) → IsSimple e → EachBackIsFar (search_rules core) journal
+    → EachBackIsFar (search_rules core) (e ∷ journal)
+far_on core (Show ids) journal w far = absurd w
+far_on core (NameTerm node) journal w far = far
+far_on core (NameAtom a) journal w far = far
+far_on core NameBody journal w far = far
+far_on core (Number x a number) journal w far = far
+far_on core (Make k) journal w far = far
+far_on core (Put a v n) journal w far = far
+far_on core (Choose b up) journal w far = far
+far_on core (Close x) journal w far = far
+far_on core (Strike n) journal w far = far
+far_on core (Keep n) journal w far = absurd w
+far_on core (Learn how ls) journal w far = far
+far_on core (Justify patterns ls) journal w far = far
+far_on core (CallWide x) journal w far = far
+far_on core (Back l) journal w far = absurd w
+far_on core (Pass ids) journal w far = far
+
 -- ---- what may still be made
 
 -- the instances that were made and those that may still be made
@@ -101,18 +126,15 @@ budget v = length v.ground.instances + v.left
 
 module _ (g : Given) (v v' : Searching) (told told' : Option outside.Journal) (held : Option (List ℕ)) (left rest rest' : ℕ)
     (journal : List Step) (at : StandsAt g v told held left rest journal) where
-  -- an event came that may come in the search's state, and was noted
-  pub stands_on : (e : Step) (ev : event.Event) → ShowsNone e → Allowed (search_rules g.core) [] (state_of v) e
-      → Says (search_rules g.core) (replay (search_rules g.core) journal) ev e
+  -- an event came that may come where the journal leads, and was noted
+  pub stands_by : (e : Step) (ev : event.Event) → ShowsNone e → Allowed (search_rules g.core) (listed g) (replay (search_rules g.core) journal) e
+      → EachBackIsFar (search_rules g.core) (e ∷ journal) → Says (search_rules g.core) (replay (search_rules g.core) journal) ev e
       → state_of v' ≡ unlisted (happens (search_rules g.core) (state_of v) e) → told' ≡ option_map (with_event ev) told
       → strikes (e ∷ journal) + rest' ≡ g.conflicts
       → budget v' ≡ budget v → StandsAt g v' told' held left rest' (e ∷ journal)
-  stands_on e ev w ok says is t count same = record {
-    legal = (
-      at.legal,
-      allowed_on (search_rules g.core) (replay (search_rules g.core) journal) (listed g) e w
-          (subst (λ (s : Reached). Allowed (search_rules g.core) [] s e) at.is ok),
-    );
+  stands_by e ev w ok far says is t count same = record {
+    legal = (at.legal, ok);
+    far = far;
     is = is ∙ ap (λ (s : Reached). unlisted (happens (search_rules g.core) s e)) at.is
         ∙ unlisted_next (search_rules g.core) (replay (search_rules g.core) journal) e;
     tells = tells_on g.core g.told told told' journal e ev at.tells says t;
@@ -122,9 +144,20 @@ module _ (g : Given) (v v' : Searching) (told told' : Option outside.Journal) (h
     instances_left = same ∙ at.instances_left;
   }
 
+  -- so it is with most events that may come in the search's state
+  pub stands_on : (e : Step) (ev : event.Event) → IsSimple e → Allowed (search_rules g.core) [] (state_of v) e
+      → Says (search_rules g.core) (replay (search_rules g.core) journal) ev e
+      → state_of v' ≡ unlisted (happens (search_rules g.core) (state_of v) e) → told' ≡ option_map (with_event ev) told
+      → strikes (e ∷ journal) + rest' ≡ g.conflicts
+      → budget v' ≡ budget v → StandsAt g v' told' held left rest' (e ∷ journal)
+  stands_on e ev w ok = stands_by e ev (simple_shows e w)
+      (allowed_on (search_rules g.core) (replay (search_rules g.core) journal) (listed g) e w
+      (subst (λ (s : Reached). Allowed (search_rules g.core) [] s e) at.is ok))
+      (far_on g.core e journal w at.far)
+
 module _ (v v' : Searching) (told told' : Option outside.Journal) (e : Step) (ev : event.Event) where
   -- an event that may come wherever the search stands, and was told, carries it on
-  pub event_carries : (held : Option (List ℕ)) (left rest rest' : ℕ) → ShowsNone e
+  pub event_carries : (held : Option (List ℕ)) (left rest rest' : ℕ) → IsSimple e
       → Allowed (search_rules v.core) [] (state_of v) e
       → Says (search_rules v.core) (state_of v) ev e → state_of v' ≡ unlisted (happens (search_rules v.core) (state_of v) e)
       → told' ≡ option_map (with_event ev) told
@@ -159,8 +192,10 @@ made_count core (Put a v n ∷ journal) = made_count core journal
 made_count core (Choose b up ∷ journal) = made_count core journal
 made_count core (Close x ∷ journal) = made_count core journal
 made_count core (Strike n ∷ journal) = made_count core journal
+made_count core (Keep n ∷ journal) = made_count core journal
 made_count core (Learn how ls ∷ journal) = made_count core journal
-made_count core (Justify atoms ls ∷ journal) = made_count core journal
+made_count core (Justify patterns ls ∷ journal) = made_count core journal
+made_count core (CallWide x ∷ journal) = made_count core journal
 made_count core (Back level ∷ journal) = made_count core journal
 made_count core (Show ids ∷ journal) = made_count core journal
 made_count core (Pass ids ∷ journal) = made_count core journal

@@ -9,7 +9,7 @@ use Rattle.alpha_outside.specs.declared.literal.Value.{Value}
 use Rattle.alpha_outside.specs.declared.literal.Value.TheVariants.{True, False}
 use Rattle.search_values.specs.declared.entry.Why.TheVariants.{Given, Chosen, Closed}
 use Rattle.search_values.specs.Values.{decision}
-use Rattle.search_theory.specs.Events.{Put, Choose, Close}
+use Rattle.journal_theory.specs.Events.{Put, Choose, Close}
 use Rattle.search_values.specs.Ids.{Named}
 use Rattle.lazy_grounder.specs.Grounds.{names_of}
 use Rattle.search_state.specs.Searching.{Searching, ids, assigned, state_of}

@@ -4,7 +4,7 @@ use Rattle.std.specs.Prelude.{Option, Some, None, option_map}
 use Rattle.alpha_outside.specs.declared.event.Event as event
 use Rattle.alpha_outside.specs.Outside as outside
 use Rattle.alpha_outside.specs.Outside.{with_event}
-use Rattle.search_theory.specs.Journals.{Says, replay}
+use Rattle.journal_theory.specs.Journals.{Says, replay}
 use Rattle.core_rules.specs.declared.rules.Core.{Core}
 use Rattle.search_rules.specs.Rules.{search_rules}
 use Rattle.search_journals.specs.Journals.{Step, Adds, Tells}

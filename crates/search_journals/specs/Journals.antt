@@ -10,9 +10,9 @@ use Rattle.core_meaning.specs.Atoms.{GroundAtom, User}
 use Rattle.search_values.specs.Nogoods.{Nogood, IsStruck}
 use Rattle.search_values.specs.Instances.{Instance}
 use Rattle.search_values.specs.Ids.{Names}
-use Rattle.search_theory.specs.States.{IsName, IsUp, IsMade}
-use Rattle.search_theory.specs.Events.{Event, NameTerm, NameAtom, NameBody, Number, Make, Put, Choose, Close, Strike, Learn, Justify, Back, Show, Pass}
-use Rattle.search_theory.specs.Journals.{SaysAll}
+use Rattle.journal_theory.specs.States.{IsName, IsUp, IsMade}
+use Rattle.journal_theory.specs.Events.{Event, NameTerm, NameAtom, NameBody, Number, Make, Put, Choose, Close, Strike, Keep, Learn, Justify, CallWide, Back, Show, Pass}
+use Rattle.journal_theory.specs.Journals.{SaysAll}
 use Rattle.search_rules.specs.Tests.{Maker}
 use Rattle.search_rules.specs.Rules.{Reached, search_rules, instance_by}
 
@@ -43,8 +43,10 @@ strikes (Make k ∷ earlier) = strikes earlier
 strikes (Put a v n ∷ earlier) = strikes earlier
 strikes (Choose b up ∷ earlier) = strikes earlier
 strikes (Close x ∷ earlier) = strikes earlier
+strikes (Keep n ∷ earlier) = strikes earlier
 strikes (Learn how ls ∷ earlier) = strikes earlier
-strikes (Justify atoms ls ∷ earlier) = strikes earlier
+strikes (Justify patterns ls ∷ earlier) = strikes earlier
+strikes (CallWide x ∷ earlier) = strikes earlier
 strikes (Back level ∷ earlier) = strikes earlier
 strikes (Show ids ∷ earlier) = strikes earlier
 strikes (Pass ids ∷ earlier) = strikes earlier
@@ -61,8 +63,10 @@ makes (Put a v n ∷ earlier) = makes earlier
 makes (Choose b up ∷ earlier) = makes earlier
 makes (Close x ∷ earlier) = makes earlier
 makes (Strike n ∷ earlier) = makes earlier
+makes (Keep n ∷ earlier) = makes earlier
 makes (Learn how ls ∷ earlier) = makes earlier
-makes (Justify atoms ls ∷ earlier) = makes earlier
+makes (Justify patterns ls ∷ earlier) = makes earlier
+makes (CallWide x ∷ earlier) = makes earlier
 makes (Back level ∷ earlier) = makes earlier
 makes (Show ids ∷ earlier) = makes earlier
 makes (Pass ids ∷ earlier) = makes earlier

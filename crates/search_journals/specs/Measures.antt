@@ -65,3 +65,9 @@ open_of ngs (ks ∷ more) = cond (list_any (blocks ks) ngs) 0 1 + open_of ngs mo
 -- the sets of literals that may still be learned
 abbrev pub still_open : List Nogood → ℕ
 still_open ngs = open_of ngs (candidates id_count)
+
+-- what may come in rounds, where so many nogoods may be struck and so many sets of literals learned: for each nogood that is struck there may be
+-- as many sets of literals again
+abbrev pub rounds_left : ℕ → ℕ → ℕ
+rounds_left zero n = n
+rounds_left (suc rest) n = suc (length (candidates id_count)) + rounds_left rest n

@@ -5,19 +5,15 @@ use Rattle.alpha_outside.specs.declared.literal.Value.TheVariants.{MustBe}
 use Rattle.search_values.specs.Values.{Value, value_of, HasClosed}
 use Rattle.search_values.specs.Nogoods.{Nogood, IsStruck, Gives, NoneStruck, NoneUnit}
 use Rattle.search_values.specs.Tables.{Made}
-use Rattle.search_theory.specs.States.{IsActive}
+use Rattle.journal_theory.specs.States.{IsActive}
 use Rattle.search_rules.specs.Tests.{Maker}
 use Rattle.search_rules.specs.Faults.{IsOverflow, IsTooLarge}
 use Rattle.search_state.specs.Searching.{Searching, ids, made, state_of}
 use Rattle.search_state.specs.Moves.{NoChoice, IsNamed}
-use Rattle.search_state.specs.Underivable.{IsUnderivable}
+use Rattle.search_state.specs.Underivable.{CanBeOut}
 use Rattle.search_journals.specs.Journals.{IsSomeDue}
 use Rattle.search_journals.specs.declared.moves.Move.{Move}
 use Rattle.search_journals.specs.declared.moves.Move.TheVariants.{Strike, Join, Justify, Choose, Close, Overflow, TooLarge, Spent, Stuck, Full}
-
--- some named atom is must-be-true
-abbrev pub SomeMustBe : Searching → Type 0
-SomeMustBe v = (x : ℕ) × IsNamed v x × (value_of v.stack x ≡ Some MustBe)
 
 -- no named atom is must-be-true
 abbrev pub NoneMustBe : Searching → Type 0
@@ -45,6 +41,14 @@ pub record IsIdle (v : Searching) : Type 0 where
   pub none_due : AllAreJoined v
   pub no_choice : NoChoice v
 
+-- some body is active
+abbrev pub SomeActive : Searching → Type 0
+SomeActive v = (b : ℕ) × (k : Made Maker) × (k ∈ made v) × IsActive (state_of v) k b
+
+-- no named atom stays must-be-true: none is, or more is chosen first
+abbrev pub NoneStays : Searching → Type 0
+NoneStays v = NoneMustBe v ⊎ SomeActive v
+
 -- the nogood of this id is unit, and gives the atom the value
 abbrev pub GivesNow : Searching → ℕ → ℕ → Value → Type 0
 GivesNow v n a value = (a < ids v) × ((ng : Nogood) × (slice_get v.nogoods n ≡ Some ng) × Gives v.stack ng a value)
@@ -53,16 +57,16 @@ GivesNow v n a value = (a < ids v) × ((ng : Nogood) × (slice_get v.nogoods n �
 abbrev pub MoveIs : Searching → Move → Type 0
 MoveIs v (Strike n) = (ng : Nogood) × (slice_get v.nogoods n ≡ Some ng) × IsStruck v.stack ng
 MoveIs v Join = IsQuiet v × NoneSince v × (v.joined < length v.stack)
-MoveIs v (Justify x) = IsQuiet v × (¬ HasClosed v.stack) × IsUnderivable v x
+MoveIs v (Justify x) = IsQuiet v × (¬ HasClosed v.stack) × NoneStays v × CanBeOut v x
 MoveIs v (Choose b) = IsQuiet v × NoneSince v × AllAreJoined v × (b < ids v) × ((k : Made Maker) × (k ∈ made v) × IsActive (state_of v) k b)
 MoveIs v (Close x) = IsQuiet v × IsIdle v × NoneMustBe v × IsNamed v x × (value_of v.stack x ≡ None)
 MoveIs v (Overflow line op x y) = IsOverflow v.core (state_of v) line op x y
 MoveIs v (TooLarge line size) = IsTooLarge v.core (state_of v) line size
 MoveIs v Spent = (v.left ≡ 0) × IsSomeDue v.core (state_of v)
-MoveIs v Stuck = IsQuiet v × SomeMustBe v × (HasClosed v.stack ⊎ IsIdle v)
+MoveIs v (Stuck x) = IsQuiet v × IsNamed v x × (value_of v.stack x ≡ Some MustBe) × (HasClosed v.stack ⊎ IsIdle v)
 MoveIs v Full = IsQuiet v × IsIdle v × NoneMustBe v × NoneUnassigned v
 
--- a conflict, a stuck atom or a set, after which the literals chosen are learned; or the end of the search by what the grounder met
+-- a conflict, a stuck atom or a set, after which something is learned; or the end of the search by what the grounder met
 abbrev pub IsHalt : Move → Type 0
 IsHalt (Strike n) = Unit {0}
 IsHalt Join = ⊥
@@ -72,5 +76,5 @@ IsHalt (Close x) = ⊥
 IsHalt (Overflow line op x y) = Unit {0}
 IsHalt (TooLarge line size) = Unit {0}
 IsHalt Spent = Unit {0}
-IsHalt Stuck = Unit {0}
+IsHalt (Stuck x) = Unit {0}
 IsHalt Full = Unit {0}

@@ -11,8 +11,8 @@ use Rattle.asp_meaning.specs.Readable.{IsReadable}
 use Rattle.core_rules.specs.declared.rules.Core.{Core}
 use Rattle.core_meaning.specs.Atoms.{GroundAtom, User}
 use Rattle.core_meaning.specs.AnswerSets.{HasCoreSets}
-use Rattle.search_theory.specs.States.{State}
-use Rattle.search_theory.specs.Journals.{Legal, replay, IsFinished}
+use Rattle.journal_theory.specs.States.{State}
+use Rattle.journal_theory.specs.Journals.{Legal, replay, IsFinished}
 use Rattle.search_rules.specs.Rules.{search_rules}
 use Rattle.search_rules.specs.Faults.{IsOverflow, IsTooLarge}
 use Rattle.search_journals.specs.Journals.{Step, Tells, strikes, makes, SomeStruck, IsSomeDue, AreLinesOf}

@@ -9,9 +9,9 @@ use Rattle.core_meaning.specs.Atoms.{GroundAtom}
 use Rattle.search_values.specs.declared.entry.Entry.{Entry}
 use Rattle.search_values.specs.Values.{level_of}
 use Rattle.search_values.specs.Tables.{Made}
-use Rattle.search_theory.specs.States.{State, Free, IsFull, AreTrueUserAtoms, IsSetOf}
-use Rattle.search_theory.specs.Journals.{Legal, replay, IsFinished}
-use Rattle.search_theory.specs.Laws.{NoneEmpty}
+use Rattle.journal_theory.specs.States.{State, Free, IsFull, AreTrueUserAtoms, IsSetOf}
+use Rattle.journal_theory.specs.Journals.{Legal, replay, IsFinished}
+use Rattle.journal_theory.specs.Laws.{NoneEmpty, EachBackIsFar}
 use Rattle.core_rules.specs.declared.rules.Core.{Core}
 use Rattle.search_rules.specs.Tests.{Maker}
 use Rattle.search_rules.specs.Rules.{Reached, search_rules}
@@ -29,9 +29,9 @@ use Rattle.search_journals.specs.declared.ends.SearchFault.TheVariants.{WriteFau
 use Rattle.search_journals.specs.declared.ends.Finish.{Finish}
 use Rattle.search_journals.specs.declared.ends.Finish.TheVariants as finish
 
--- the state without the sets found, of which a search keeps none
+-- the state without the sets found and the nogoods kept, of which a search has no list
 abbrev pub unlisted : Reached → Reached
-unlisted s = record s { shown = []; passed = [] }
+unlisted s = record s { shown = []; passed = []; kept = [] }
 
 -- ---- the lines written
 
@@ -79,6 +79,8 @@ given_for core lists told held settings = record {
 pub record StandsAt (g : Given) (v : Searching) (told : Option outside.Journal) (held : Option (List ℕ)) (left rest : ℕ)
     (journal : List Step) : Type 0 where
   pub legal : Legal (search_rules g.core) (listed g) journal
+  -- each Back went as far as the nogood stayed unit
+  pub far : EachBackIsFar (search_rules g.core) journal
   pub is : state_of v ≡ unlisted (replay (search_rules g.core) journal)
   pub tells : Tells g.core g.told told journal
   pub hands : Hands g.core g.held held journal

@@ -9,7 +9,7 @@ pub enum Move {
     Strike(NogoodId),
     /// The next entry of the trail is handed to the grounder.
     Join,
-    /// No rule gives the atom.
+    /// No rule gives the atom, which has no value.
     Justify(AtomId),
     /// The body is active.
     Choose(AtomId),
@@ -29,8 +29,8 @@ pub enum Move {
     },
     /// An instance is due, and no more may be made.
     Spent,
-    /// A named atom stays must-be-true.
-    Stuck,
+    /// The named atom stays must-be-true.
+    Stuck(AtomId),
     /// A set is found.
     Full,
 }

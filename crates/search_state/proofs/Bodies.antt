@@ -10,7 +10,7 @@ use Rattle.search_values.specs.declared.entry.Entry.{Entry}
 use Rattle.search_values.specs.Tables as table
 use Rattle.search_values.proofs.Basics.{get_in}
 use Rattle.nogood_store.proofs.Matched.{there_below}
-use Rattle.search_theory.specs.States.{IsActive}
+use Rattle.journal_theory.specs.States.{IsActive}
 use Rattle.atom_pool.specs.declared.atom.AtomNode.{AtomNode}
 use Rattle.atom_pool.specs.declared.instances.Made.{Made}
 use Rattle.choice_manager.specs.Active.{IsActiveBody, ArePlaced}

@@ -1,5 +1,5 @@
 -- Entries of a stack, and the literals chosen.
-use Rattle.std.proofs.Common.{◌≡◌, ℕ, ◌+◌, ◌-◌, ◌≤◌, Bool, true, false, ◌&&◌, cond, List, [], ◌∷◌, ◌++◌, length, reverse, take, drop, get_or, true≢false, refl, sym, ◌∙◌, ap, subst, inl, inr, arith, append_assoc}
+use Rattle.std.proofs.Common.{◌≡◌, ℕ, ◌+◌, ◌≤◌, Bool, true, false, ◌&&◌, cond, List, [], ◌∷◌, ◌++◌, length, reverse, take, drop, get_or, true≢false, refl, sym, ◌∙◌, ap, subst, inl, inr, arith, append_assoc}
 use Rattle.std.specs.Prelude.{Option, Some, None, nat_eq, is_none}
 use Rattle.std.specs.Option.{option_map, option_eq}
 use lib.Dec.{eqb}
@@ -14,7 +14,7 @@ use Rattle.search_values.specs.Values.{Value, MustBe, Lit, lit, is_up, value_of,
 use Rattle.search_values.proofs.Basics.{value_cases, nat_eq-same}
 use Rattle.trail.specs.Assigning.{IsStackOf, first_level_of}
 use Rattle.search_fronts.proofs.Walking.{EntryAt, entry_at, stack_below}
-use Rattle.search_state.specs.Searching.{adds_choice, jump_by, jump_of}
+use Rattle.search_state.specs.Searching.{adds_choice}
 
 -- ---- levels of first values
 
@@ -122,21 +122,6 @@ choice_no Chosen (Some v) l ls h = refl
 choice_no (Given n) before l ls h = refl
 choice_no (Closed reason) before l ls h = refl
 
--- at an entry that adds a choice the jump is to the level below it
-jump_yes : (w : Why) (before : Option Value) (below jump : ℕ) → adds_choice w before ≡ true → (jump_by w before below jump ≡ below) ×
-    (opened w ≡ 1)
-jump_yes Chosen None below jump h = (refl, refl)
-jump_yes Chosen (Some v) below jump h = cc
-jump_yes (Given n) before below jump h = cc
-jump_yes (Closed reason) before below jump h = cc
-
--- at another entry it is where it was
-jump_no : (w : Why) (before : Option Value) (below jump : ℕ) → adds_choice w before ≡ false → jump_by w before below jump ≡ jump
-jump_no Chosen None below jump h = cc
-jump_no Chosen (Some v) below jump h = refl
-jump_no (Given n) before below jump h = refl
-jump_no (Closed reason) before below jump h = refl
-
 -- at an entry on the way down
 module _ (atoms : ℕ) (stack entries : List Entry) (turned : entries ≡ reverse stack) (are : IsStackOf atoms stack) (left j : ℕ) (e : Entry)
     (low : left ≤ length entries) (next : j + 1 ≡ left)
@@ -158,10 +143,6 @@ module _ (atoms : ℕ) (stack entries : List Entry) (turned : entries ≡ revers
   adds : result ≡ adds_choice e.why (value_of (reverse (take j entries)) e.atom)
   adds = is (reverse (drop (j + 1) entries)) (reverse (take j entries)) whole
 
-  -- it and the entries below it are a stack
-  below : IsStackOf atoms (e ∷ reverse (take j entries))
-  below = stack_below atoms (reverse (drop (j + 1) entries)) (e ∷ reverse (take j entries)) (subst (λ s. IsStackOf atoms s) whole are)
-
   -- the entry adds its literal to those chosen
   pub chosen_step : (lits new total : List Lit) → result ≡ true → new ≡ lits ++ lit e.atom (is_up e.value) ∷ [] → lits ++ chosen
       (reverse (take left entries)) ≡ total
@@ -178,24 +159,3 @@ module _ (atoms : ℕ) (stack entries : List Entry) (turned : entries ≡ revers
   chosen_skip lits total f old =
       ap (λ ls. lits ++ ls) (sym (ap chosen first ∙ choice_no e.why (value_of (reverse (take j entries)) e.atom) (lit e.atom
       (is_up e.value)) (chosen (reverse (take j entries))) (sym adds ∙ f))) ∙ old
-
-  -- the entry's level is above that of the stack below it
-  pub jump_level : result ≡ true → e.level ≡ level_of (reverse (take j entries)) + 1
-  jump_level t = below.0.level_told ∙ ap (λ n. level_of (reverse (take j entries)) + n)
-      (jump_yes e.why (value_of (reverse (take j entries)) e.atom) 0 0 (sym adds ∙ t)).1
-
-  -- the entry is the newest that adds a literal
-  pub jump_stop : (total : ℕ) → result ≡ true → jump_of (reverse (take left entries)) ≡ total → e.level - 1 ≡ total
-  jump_stop total t old =
-      let level = jump_level t in
-      let found : jump_of (e ∷ reverse (take j entries)) ≡ level_of (reverse (take j entries))
-      = (jump_yes e.why (value_of (reverse (take j entries)) e.atom) (level_of (reverse (take j entries)))
-      (jump_of (reverse (take j entries))) (sym adds ∙ t)).0 in
-      let known : level_of (reverse (take j entries)) ≡ total = sym found ∙ sym (ap jump_of first) ∙ old in
-      omega arith
-
-  -- the entry adds no literal, so the newest that does is below
-  pub jump_skip : (total : ℕ) → result ≡ false → jump_of (reverse (take left entries)) ≡ total → jump_of (reverse (take j entries)) ≡ total
-  jump_skip total f old =
-      sym (ap jump_of first ∙ jump_no e.why (value_of (reverse (take j entries)) e.atom) (level_of (reverse (take j entries)))
-      (jump_of (reverse (take j entries))) (sym adds ∙ f)) ∙ old

@@ -33,7 +33,7 @@ use Rattle.ground_noting.specs.declared.telling.Told.{Told}
 use Rattle.justification.specs.Heads as heads
 use Rattle.search_state.specs.Searching.{Searching, IsAllTold, ids, terms, LitsAreBelow}
 use Rattle.search_state.specs.Moves.{IsNamed}
-use Rattle.search_state.specs.Underivable.{IsOpen, IsUnderivable, justified_lits, IsPatternAt}
+use Rattle.search_state.specs.Underivable.{IsUnderivable, justified_lits, IsPatternAt}
 use Rattle.search_state.proofs.Takes.{take_get}
 use Rattle.search_state.proofs.Listing.{name_at, named_told, named_node, name_user, user_pred}
 
@@ -54,12 +54,11 @@ justified_low v x is l (inr none) = absurd none
 pub is_node : (v : Searching) (x : ℕ) → IsNamed v x → heads.IsNamed v.ground x
 is_node v x named = named_node v x named.0 named.1
 
--- an open atom of the ground that nothing gives is underivable
-pub none_gives_it : (v : Searching) (x : ℕ) → IsNamed v x → IsOpen v x → heads.NothingGives v.core v.ground x → IsUnderivable v x
-none_gives_it v x named not_yet none = record {
+-- an atom of the ground that nothing gives is underivable
+pub none_gives_it : (v : Searching) (x : ℕ) → IsNamed v x → heads.NothingGives v.core v.ground x → IsUnderivable v x
+none_gives_it v x named none = record {
   atom = named.0;
   named = named.1;
-  not_yet = not_yet;
   none_gives = none named.0 (take_get v.told.atoms (names_of v.core.aggregates v.ground) x (Named named.0) named.1).1;
 }
 

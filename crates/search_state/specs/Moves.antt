@@ -9,7 +9,7 @@ use Rattle.search_values.specs.Values.{value_of}
 use Rattle.search_values.specs.Nogoods.{Nogood, IsStruck, NoneStruck, NoneUnit}
 use Rattle.search_values.specs.Tables.{Made}
 use Rattle.search_values.specs.Ids.{Names}
-use Rattle.search_theory.specs.States.{IsName, IsActive}
+use Rattle.journal_theory.specs.States.{IsName, IsActive}
 use Rattle.asp_meaning.specs.Atoms.{Atom}
 use Rattle.asp_meaning.specs.Lines.{IsInOrder}
 use Rattle.core_meaning.specs.Atoms.{GroundAtom, User}

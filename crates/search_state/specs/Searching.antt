@@ -12,11 +12,11 @@ use Rattle.core_meaning.specs.Atoms.{GroundAtom}
 use Rattle.search_values.specs.declared.entry.Why.{Why}
 use Rattle.search_values.specs.declared.entry.Why.TheVariants.{Given, Chosen, Closed}
 use Rattle.search_values.specs.declared.entry.Entry.{Entry}
-use Rattle.search_values.specs.Values.{entry_on, is_up, value_of, level_of, back_to}
+use Rattle.search_values.specs.Values.{entry_on, is_up, back_to}
 use Rattle.search_values.specs.Nogoods.{Nogood}
 use Rattle.search_values.specs.Tables as table
 use Rattle.search_values.specs.Ids as theory_id
-use Rattle.search_theory.specs.States as theory
+use Rattle.journal_theory.specs.States as theory
 use Rattle.nogood_store.specs.Stored.{Stored, nogood_of}
 use Rattle.nogood_store.specs.Matching.{Matches}
 use Rattle.trail.specs.Assigning.{Trailed}
@@ -87,7 +87,7 @@ made v = take v.told.instances (map (made_of v.ground.terms) v.ground.instances)
 abbrev pub ids : Searching → ℕ
 ids v = v.told.atoms
 
--- the state of the theory, but for the sets found, of which a search keeps none
+-- the state of the theory, but for the sets found and the nogoods kept, of which a search has no list
 abbrev pub state_of : Searching → Reached
 state_of v = record {
   numbers = tt;
@@ -98,6 +98,7 @@ state_of v = record {
   stack = v.stack;
   shown = [];
   passed = [];
+  kept = [];
   closing = v.closing;
   phase = v.phase;
 }
@@ -133,7 +134,8 @@ HasFronts joined risen stack = (joined ≤ risen) × (risen ≤ length stack)
 
 abbrev pub phase_of : Stage → theory.Phase
 phase_of stage.Free = theory.Phase.Free
-phase_of stage.MustLearn = theory.Phase.MustLearn
+phase_of (stage.MustLearn n) = theory.Phase.MustLearn n
+phase_of stage.MustDecide = theory.Phase.MustDecide
 phase_of stage.Found = theory.Phase.Found
 phase_of (stage.MustStrike n) = theory.Phase.MustStrike n
 phase_of (stage.MustJump n) = theory.Phase.MustJump n
@@ -238,10 +240,6 @@ taken_back v level = record v {
 abbrev pub with_ground_of : Searching → Searching → Searching
 with_ground_of v w = record v { ground = w.ground; memory = w.memory; risen = w.risen; joined = w.joined; left = w.left }
 
-abbrev pub is_empty : List Lit → Bool
-is_empty [] = true
-is_empty (l ∷ lits) = false
-
 -- whether it is level 0, or none
 abbrev pub is_level_0 : Option ℕ → Bool
 is_level_0 None = true
@@ -255,14 +253,3 @@ adds_choice (Given n) before = false
 adds_choice Chosen None = true
 adds_choice Chosen (Some v) = false
 adds_choice (Closed reason) before = false
-
-abbrev pub jump_by : Why → Option Value → ℕ → ℕ → ℕ
-jump_by (Given n) before below jump = jump
-jump_by Chosen None below jump = below
-jump_by Chosen (Some v) below jump = jump
-jump_by (Closed reason) before below jump = jump
-
--- the level below the newest literal chosen, or 0
-abbrev pub jump_of : List Entry → ℕ
-jump_of [] = 0
-jump_of (e ∷ rest) = jump_by e.why (value_of rest e.atom) (level_of rest) (jump_of rest)

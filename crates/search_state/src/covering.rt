@@ -10,11 +10,12 @@ ghost use Rattle.std.specs.Prelude.{◌≡◌, ◌<◌, ◌≤◌, None, true, f
 ghost use Rattle.alpha_outside.specs.declared.pattern.PatternTerm.TheVariants.{Known};
 ghost use Rattle.search_values.specs.Values.{value_of};
 ghost use Rattle.lazy_grounder.specs.Lawful.{IsLawful};
-ghost use Rattle.search_state.specs.Searching.{ids, IsAllTold};
+ghost use Rattle.journal_theory.specs.Events.{phase_justified};
+ghost use Rattle.search_state.specs.Searching.{ids, IsAllTold, phase_of};
 ghost use Rattle.search_state.specs.Moves.{IsNamed};
-ghost use Rattle.search_state.specs.Underivable.{IsOpen, IsUnderivable, justified_lits, with_justified, IsPatternAt};
+ghost use Rattle.search_state.specs.Underivable.{IsUnderivable, CanBeOut, justified_lits, with_justified, IsPatternAt};
 
-use crate::search::Search;
+use crate::search::{Search, Stage};
 use alpha_outside::{
     AtomId, List, Lit, NogoodId, OutOfMemory, Pattern, PatternTerm, TermId, Value,
 };
@@ -46,52 +47,64 @@ fn known_terms(alloc: Global, args: &[TermId]) -> Result<List<PatternTerm>, OutO
     Ok(terms)
 }
 
-impl Search {
-    // Whether the id is that of a named atom that has no value or is must-be-true.
-    fn is_open(&self, id: AtomId) -> bool
-        requires { id < ids self.now }
-        ensures { result ≡ true → IsNamed self.now id × IsOpen self.now id }
-    {
-        match self.trail.value(id) {
-            None => self.is_named(id),
-            Some(Value::MustBe) => self.is_named(id),
-            Some(_) => false,
-        }
+// What comes after the nogood of an atom with this value was justified.
+fn stage_justified(stage: Stage, value: Option<Value>, nogood: NogoodId) -> Stage
+    ensures { phase_of result ≡ phase_justified (phase_of stage) value nogood }
+{
+    match stage {
+        Stage::Free => match value {
+            None => Stage::Free,
+            Some(_) => Stage::MustStrike(nogood),
+        },
+        other => other,
     }
+}
 
-    // Whether the id is that of such an atom, and no rule gives it.
-    fn is_barred(&self, id: AtomId) -> Result<bool, OutOfMemory>
+impl Search {
+    /// Whether no rule gives the named atom.
+    ///
+    /// It costs one look at the head of each rule.
+    pub fn is_barred(&self, id: AtomId) -> Result<bool, OutOfMemory>
         requires lawful { IsLawful self.now.core self.now.ground }
-        requires there { id < ids self.now }
+        requires named { IsNamed self.now id }
         ensures { IfOk result (λ barred. barred ≡ true → IsUnderivable self.now id) }
     {
-        if !self.is_open(id) {
+        is_underivable(self.alloc, &self.core, &self.ground, id)
+    }
+
+    // Whether the id is that of a named atom without a value that no rule gives.
+    fn is_ruled_out(&self, id: AtomId) -> Result<bool, OutOfMemory>
+        requires lawful { IsLawful self.now.core self.now.ground }
+        requires there { id < ids self.now }
+        ensures { IfOk result (λ out. out ≡ true → CanBeOut self.now id) }
+    {
+        if self.trail.value(id).is_some() || !self.is_named(id) {
             return Ok(false);
         }
-        is_underivable(self.alloc, &self.core, &self.ground, id)
+        self.is_barred(id)
     }
 
     // The first such atom among the ids from one on and below another.
     fn underivable_in(&self, from: u32, to: u32) -> Result<Option<AtomId>, OutOfMemory>
         requires lawful { IsLawful self.now.core self.now.ground }
         requires there { to ≤ ids self.now }
-        ensures { IfOk result (λ found. IfSome found (IsUnderivable self.now)) }
+        ensures { IfOk result (λ found. IfSome found (CanBeOut self.now)) }
     {
         for id in from..to {
-            if self.is_barred(AtomId(id))? {
+            if self.is_ruled_out(AtomId(id))? {
                 return Ok(Some(AtomId(id)));
             }
         }
         Ok(None)
     }
 
-    /// An atom that no rule gives. Above level 0 it tries only the atoms that weren't tried before; at level 0 it tries all, those first
+    /// An atom without a value that no rule gives. Above level 0 it tries only the atoms that weren't tried before; at level 0 it tries all, those first
     /// that come after the last one found.
     ///
     /// None says only that none was found. It costs one look at the head of each rule for each atom that is tried.
     pub fn underivable(&self) -> Result<Option<AtomId>, OutOfMemory>
         requires { IsLawful self.now.core self.now.ground }
-        ensures { IfOk result (λ found. IfSome found (IsUnderivable self.now)) }
+        ensures { IfOk result (λ found. IfSome found (CanBeOut self.now)) }
     {
         let all = self.told.atoms;
         let tried = self.tried.min(all);
@@ -111,17 +124,9 @@ impl Search {
     {
         let lits = lits_for(self.alloc, atom)?;
         let nogood = admit(&mut self.nogoods, &self.trail, lits.as_slice(), None)?;
+        self.stage = stage_justified(self.stage, self.trail.value(atom), nogood);
         self.tried = atom.0.saturating_add(1);
         Ok((nogood, lits))
-    }
-
-    /// Whether the atom has no value.
-    pub fn is_unassigned(&self, id: AtomId) -> bool
-        requires { id < ids self.now }
-        ensures yes { result ≡ true → value_of self.now.stack id ≡ None }
-        ensures no { result ≡ false → ¬ (value_of self.now.stack id ≡ None) }
-    {
-        self.trail.value(id).is_none()
     }
 
     /// The pattern of a named atom alone.

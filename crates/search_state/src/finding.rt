@@ -8,11 +8,11 @@ ghost use Rattle.asp_meaning.specs.Lines.{IsSetLine};
 ghost use Rattle.core_meaning.specs.Atoms.{User as OfProgram};
 ghost use Rattle.search_values.specs.Values.{value_of, chosen as chosen_of, HasClosed};
 ghost use Rattle.search_values.specs.Ids.{Names};
-ghost use Rattle.search_theory.specs.States.{IsActive};
+ghost use Rattle.journal_theory.specs.States.{IsActive};
 ghost use Rattle.search_values.specs.Tables.{Made};
 ghost use Rattle.trail.specs.Assigning.{IsStackOf};
 ghost use Rattle.search_rules.specs.Tests.{Maker as Rule};
-ghost use Rattle.search_state.specs.Searching.{ids, names, made, state_of, IsAllTold, jump_of, adds_choice};
+ghost use Rattle.search_state.specs.Searching.{ids, names, made, state_of, IsAllTold, adds_choice};
 ghost use Rattle.search_state.specs.Moves.{NoChoice, IsNamed, AreTrueNames, AreTrueIds};
 
 use crate::search::Search;
@@ -155,21 +155,5 @@ impl Search {
             }
         }
         Ok(lits)
-    }
-
-    /// The level below the newest literal chosen, or 0.
-    pub fn jump(&self) -> u32
-        ensures { result ≡ jump_of self.now.stack }
-    {
-        let entries = self.trail.entries();
-        let mut left = entries.len();
-        while left > 0 {
-            left -= 1;
-            let entry = &entries[left];
-            if is_choice(&self.trail, entry) {
-                return entry.level - 1;
-            }
-        }
-        0
     }
 }

@@ -9,9 +9,11 @@ mod covering;
 mod finding;
 mod grounding;
 mod laws;
+mod learning;
 mod noting;
 mod propagating;
 mod search;
 
+pub use conflict_learning::Analysis;
 pub use laws::joining;
 pub use search::{Search, Stage};

@@ -6,14 +6,14 @@ ghost use Rattle.alpha_outside.specs.declared.pred.Pred.{Pred};
 ghost use Rattle.alpha_outside.specs.declared.literal.Value.TheVariants.{False};
 ghost use Rattle.search_values.specs.declared.entry.Why.TheVariants.{Given, Chosen, Closed};
 ghost use Rattle.search_values.specs.Values.{value_of, level_of, all_at_0, decision};
-ghost use Rattle.search_theory.specs.Events.{phase_struck, phase_learned, lits_at};
-ghost use Rattle.search_theory.specs.States as phase;
+ghost use Rattle.journal_theory.specs.Events.{phase_struck, phase_learned, lits_at};
+ghost use Rattle.journal_theory.specs.States as phase;
 ghost use Rattle.nogood_store.specs.Stored.{Stored, HasNoAtomTwice};
 ghost use Rattle.nogood_store.specs.Matching.{Matches};
 ghost use Rattle.trail.specs.Assigning.{MayBecome, MayDecide};
 ghost use Rattle.lazy_grounder.specs.Lawful.{IsLawful};
 ghost use Rattle.search_rules.specs.Stage.{IsSearchable};
-ghost use Rattle.search_state.specs.Searching.{ids, assigned, taken_back, phase_of, LitsAreBelow, is_empty, is_level_0, fresh};
+ghost use Rattle.search_state.specs.Searching.{ids, assigned, taken_back, phase_of, LitsAreBelow, is_level_0, fresh};
 
 use alpha_outside::{AtomId, List, Lit, NogoodId, OutOfMemory, Value};
 use atom_pool::{AtomPool, Budget, Ground, Instances};
@@ -42,13 +42,15 @@ const NOTHING: Told = Told {
 pub enum Stage {
     /// Nothing in particular.
     Free,
-    /// A nogood is struck, and the literals chosen are to be learned.
-    MustLearn,
+    /// This nogood is struck, and the search has to learn from it.
+    MustLearn(NogoodId),
+    /// An atom was called wide, and the literals chosen are to be learned.
+    MustDecide,
     /// A set was found.
     Found,
     /// The nogood just learned is to be struck.
     MustStrike(NogoodId),
-    /// The levels above one at which the nogood just learned is unit are to be taken away.
+    /// The levels above one at which the nogood just learned or kept is unit are to be taken away.
     MustJump(NogoodId),
     /// The search has ended.
     Over,
@@ -77,7 +79,7 @@ pub struct Search {
     /// From which atom on the next look goes for one that no rule gives.
     pub(crate) tried: u32,
     closing: bool,
-    stage: Stage,
+    pub(crate) stage: Stage,
 }
 
 impl Model for Search {
@@ -215,26 +217,40 @@ impl Search {
         self.stage = Stage::Found;
     }
 
-    /// Stores the literals chosen as a nogood.
+    /// Stores these literals as a nogood that was learned.
     pub fn learn(&mut self, lits: &[Lit]) -> Result<NogoodId, OutOfMemory>
         requires below { LitsAreBelow (ids self.old) lits.now }
         requires no_atom_twice { HasNoAtomTwice lits.now }
         ensures id { IfOk result (λ n. n ≡ length self.old.nogoods) }
-        ensures ok { OnOk result (self.new ≡ record self.old { nogoods = self.old.nogoods ++ record { lits = lits.now; head = None } ∷ []; phase = phase_learned self.old.phase (length self.old.nogoods) lits.now }) }
+        ensures ok { OnOk result (self.new ≡ record self.old { nogoods = self.old.nogoods ++ record { lits = lits.now; head = None } ∷ []; phase = phase_learned self.old.phase (length self.old.nogoods) }) }
         ensures ids_fit { ids self.old < 2 ^ 32 }
     {
         let nogood = admit(&mut self.nogoods, &self.trail, lits, None)?;
-        self.stage = stage_learned(self.stage, nogood, lits.is_empty());
+        self.stage = stage_learned(self.stage, nogood);
         Ok(nogood)
     }
 
     /// Notes that the nogood is struck.
     pub fn strike(&mut self, nogood: NogoodId)
         requires { nogood < length self.old.nogoods }
-        ensures { self.new ≡ record self.old { phase = phase_struck self.old.phase (all_at_0 self.old.stack (lits_at self.old.nogoods nogood)) } }
+        ensures { self.new ≡ record self.old { phase = phase_struck nogood (all_at_0 self.old.stack (lits_at self.old.nogoods nogood)) } }
     {
         let root = are_at_0(&self.trail, self.nogoods.lits(nogood));
-        self.stage = stage_struck(self.stage, root);
+        self.stage = stage_struck(nogood, root);
+    }
+
+    /// Notes that the struck nogood is kept: it is unit once levels are taken away.
+    pub fn keep(&mut self, nogood: NogoodId)
+        ensures { self.new ≡ record self.old { phase = phase.MustJump nogood } }
+    {
+        self.stage = Stage::MustJump(nogood);
+    }
+
+    /// Notes that an atom was called wide.
+    pub fn call_wide(&mut self)
+        ensures { self.new ≡ record self.old { phase = phase.MustDecide } }
+    {
+        self.stage = Stage::MustDecide;
     }
 }
 
@@ -273,32 +289,23 @@ fn is_0(level: Option<u32>) -> bool
     }
 }
 
-// What comes after a struck nogood.
-fn stage_struck(stage: Stage, root: bool) -> Stage
-    ensures { phase_of result ≡ phase_struck (phase_of stage) root }
+// What comes after this nogood was struck.
+fn stage_struck(nogood: NogoodId, root: bool) -> Stage
+    ensures { phase_of result ≡ phase_struck nogood root }
 {
     if root {
-        return Stage::Over;
-    }
-    match stage {
-        Stage::MustStrike(nogood) => Stage::MustJump(nogood),
-        _ => Stage::MustLearn,
+        Stage::Over
+    } else {
+        Stage::MustLearn(nogood)
     }
 }
 
-// What comes after a nogood was learned.
-fn stage_learned(stage: Stage, nogood: NogoodId, empty: bool) -> Stage
-    ensures { (lits : List Lit) → is_empty lits ≡ empty → phase_of result ≡ phase_learned (phase_of stage) nogood lits }
+// What comes after this nogood was learned.
+fn stage_learned(stage: Stage, nogood: NogoodId) -> Stage
+    ensures { phase_of result ≡ phase_learned (phase_of stage) nogood }
 {
     match stage {
-        Stage::Free => Stage::MustStrike(nogood),
-        Stage::MustLearn => {
-            if empty {
-                Stage::MustStrike(nogood)
-            } else {
-                Stage::MustJump(nogood)
-            }
-        }
+        Stage::MustDecide => Stage::MustStrike(nogood),
         _ => Stage::MustJump(nogood),
     }
 }

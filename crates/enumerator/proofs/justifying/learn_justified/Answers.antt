@@ -16,5 +16,5 @@ returns-in_err-noted-clause-err g c =
     rw (p.1, p.2) (note_fault c.args.search.now _ _ _ _ _ c.in_err-noted.ensures.unchanged c.in_err-noted.ensures.cause)
 
 pub returns-clause-learned : goal.returns-clause-learned
-returns-clause-learned g c = has_justified c.args.search.now c.justify.new.self _ _ c.args.atom _ _ _ c.requires.ready c.requires.next
+returns-clause-learned g c = has_justified c.args.search.now c.justify.new.self _ _ c.args.atom _ _ _ c.requires.may
     c.in-Ok.ensures c.in-Ok-justify.ensures.ok c.in-Ok-justify.ensures.id c.in-Ok-justify.ensures.lits c.in_ok-noted.ensures.ok

@@ -14,6 +14,15 @@ returns-in_err-found-clause-err g c =
     (λ g' fits lists s. leaves_fault c.rounds.search _ _ _ _ _ _ _
     (round_fault c.rounds.search _ _ _ _ _ _ c.in_err-found.ensures.err) g' fits _ _ c.rounds.invariant.room s))
 
+pub settle-requires-clause-stands : goal.settle-requires-clause-stands
+settle-requires-clause-stands g c =
+    stands_still c.args.book.now c.args.search.now c.advance.new.search _ (g.T.Trace.journal c.advance.new.trace) _ _ _ _ c.rounds.left c.rounds.rest
+    (c.in_ok-found.ensures.runs.core ∙ c.rounds.invariant.core)
+    (carries_on c.args.book.now c.args.search.now c.rounds.search c.advance.new.search _ (g.T.Trace.journal c.rounds.trace) _ _
+    (g.O.Sink.held c.rounds.out) _ _ (c.rounds.left, c.rounds.rest) _ c.rounds.invariant.core c.rounds.invariant.carries
+    (λ g' fits lists s. c.in_ok-found.ensures.runs.carries (g.O.Sink.held c.rounds.out) c.rounds.left c.rounds.rest g' fits s))
+    c.requires.stands
+
 pub returns-in_err-finish-clause-err : goal.returns-in_err-finish-clause-err
 returns-in_err-finish-clause-err g c =
     let p = err_from_is_err_and c.from_residual-in_err-finish.result c.from_residual-in_err-finish.ensures.1 in
@@ -42,9 +51,9 @@ rounds-smaller g c =
     let w = subst (λ end. Outcome c.args.book.now c.advance.new.search c.settle.new.search (g.T.Trace.journal c.advance.new.trace)
     (g.T.Trace.journal c.settle.new.trace) (g.O.Sink.held c.rounds.out) (g.O.Sink.held c.settle.new.out) (c.rounds.left, c.rounds.rest)
     (c.settle.new.left, c.settle.new.rest) end) c.in-None.is c.in_ok-finish.ensures.ok in
-    round_falls c.args.book.now c.rounds.search c.advance.new.search c.settle.new.search _ _ _ _ _
+    round_falls c.args.book.now c.rounds.search c.advance.new.search c.settle.new.search _ _ _ _ c.rounds.rest c.settle.new.rest
     (stands_still c.args.book.now c.args.search.now c.rounds.search _ _ _ _ _ _ _ _ c.rounds.invariant.core c.rounds.invariant.carries c.requires.stands)
-    c.in_ok-found.ensures.runs w.0
+    c.in_ok-found.ensures.runs w.2
 
 pub rounds-preserved : goal.rounds-preserved
 rounds-preserved g c =
@@ -60,7 +69,7 @@ rounds-preserved g c =
           (carries_on c.args.book.now c.args.search.now c.rounds.search c.advance.new.search _ (g.T.Trace.journal c.rounds.trace) _ _
           (g.O.Sink.held c.rounds.out) _ _ (c.rounds.left, c.rounds.rest) _ c.rounds.invariant.core c.rounds.invariant.carries
           (λ g' fits lists s. c.in_ok-found.ensures.runs.carries (g.O.Sink.held c.rounds.out) c.rounds.left c.rounds.rest g' fits s))
-          w.2;
+          w.3;
       fewer = (let a = c.rounds.invariant.fewer in let b = c.settle.ensures.fewer in omega (arith, a, b));
       out_later = (let a = c.rounds.invariant.out_later in let b = c.settle.ensures.out_later in omega (arith, a, b));
       later = (let a = c.rounds.invariant.later in let b = c.advance.ensures.later in let d = c.settle.ensures.later in omega

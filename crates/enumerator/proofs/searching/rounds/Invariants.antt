@@ -1,6 +1,6 @@
 use Rattle.std.proofs.Common.{◌≤◌, ◌<◌, ◌≡◌}
 use Rattle.search_journals.specs.Standing.{IsReady, CarriesOver}
-use Rattle.search_journals.specs.Measures.{still_open}
+use Rattle.search_journals.specs.Measures.{still_open, rounds_left}
 use Rattle.enumerator.proofs.searching.rounds.Given as goal
 
 abbrev pub invariant-rounds : goal.invariant-rounds
@@ -16,4 +16,4 @@ invariant-rounds g l = record {
 }
 
 abbrev pub decreases-rounds : goal.decreases-rounds
-decreases-rounds g l = still_open l.search.nogoods
+decreases-rounds g l = rounds_left l.rest (still_open l.search.nogoods)

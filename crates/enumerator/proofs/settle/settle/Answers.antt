@@ -1,8 +1,10 @@
-use Rattle.std.proofs.Common.{subst, arith}
+use Rattle.std.proofs.Common.{ap, subst, arith}
 use Rattle.std.proofs.lemmas.Result.{err_from_is_err_and}
+use Rattle.search_state.specs.Searching.{Searching}
 use Rattle.search_journals.specs.Moves.{MoveIs}
 use Rattle.search_journals.proofs.Stepping.{err_on}
-use Rattle.search_journals.proofs.Ending.{leaves_fault, found_outcome, found_fault, is_found}
+use Rattle.search_journals.proofs.Ending.{leaves_fault, rounds_outcome, found_outcome, found_fault, is_found}
+use Rattle.search_journals.proofs.Conflicts.{somewhere, somewhere_found}
 use Rattle.enumerator.proofs.Ends.{other_stops, ends_stop}
 use Rattle.enumerator.proofs.settle.settle.Goals as goal
 
@@ -15,7 +17,28 @@ pub settle_found-requires : goal.settle_found-requires
 settle_found-requires g c = record {
   found = is_found c.args.book.now c.args.search.now c.find.new.search _ _ _ _ _ _ c.in_ok-find-in-Full.ensures.found
       c.in_ok-find-in-Full.ensures.carries c.requires.ready (subst (λ m. MoveIs c.args.search.now m) c.in-Full.is c.requires.next);
+  stands = (
+    c.args.rest.now,
+    somewhere_found c.args.book.now c.args.search.now c.find.new.search _ _ _ _ c.args.left.now c.find.new.left c.args.rest.now
+        c.requires.stands (ap (λ (z : Searching). z.core) c.in_ok-find-in-Full.ensures.found) c.in_ok-find-in-Full.ensures.carries,
+  );
 }
+
+pub settle_struck-requires-clause-stands : goal.settle_struck-requires-clause-stands
+settle_struck-requires-clause-stands g c = somewhere c.args.book.now c.args.search.now _ _ c.args.left.now c.args.rest.now c.requires.stands
+
+pub settle_stuck-requires-clause-stands : goal.settle_stuck-requires-clause-stands
+settle_stuck-requires-clause-stands g c = somewhere c.args.book.now c.args.search.now _ _ c.args.left.now c.args.rest.now c.requires.stands
+
+pub returns-in-Strike-clause-ok : goal.returns-in-Strike-clause-ok
+returns-in-Strike-clause-ok g c =
+    rounds_outcome c.args.book.now c.settle_struck.result c.args.search.now c.settle_struck.new.search _ _ _ c.args.left.now c.args.rest.now _
+    c.requires.room c.settle_struck.ensures.ok
+
+pub returns-in-Stuck-clause-ok : goal.returns-in-Stuck-clause-ok
+returns-in-Stuck-clause-ok g c =
+    rounds_outcome c.args.book.now c.settle_stuck.result c.args.search.now c.settle_stuck.new.search _ _ _ c.args.left.now c.args.rest.now _
+    c.requires.room c.settle_stuck.ensures.ok
 
 pub returns-in-Strike-clause-err : goal.returns-in-Strike-clause-err
 returns-in-Strike-clause-err g c =

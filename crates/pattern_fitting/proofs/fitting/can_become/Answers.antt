@@ -1,16 +1,13 @@
-use Rattle.std.proofs.Common.{rules, ◌≡◌, length, map, sym, subst}
+use Rattle.std.proofs.Common.{rules, ◌≡◌, length, sym, subst}
 use Rattle.std.proofs.lemmas.Result.{IfOk-weaker}
 use Rattle.lists.specs.Lists.{Each}
-use Rattle.alpha_outside.specs.declared.pattern.PatternTerm.TheVariants.{Known}
-use Rattle.unification.specs.Solving.{IsEquationOf, SolvedOrNot, equations_of}
+use Rattle.unification.specs.Solving.{IsEquationOf, SolvedOrNot}
 use Rattle.pattern_fitting.proofs.FittingLemmas.{own_known, todo_formed, exactly}
 use Rattle.pattern_fitting.proofs.fitting.can_become.Goals as goal
 
 pub solve-requires-clause-known : goal.solve-requires-clause-known
 solve-requires-clause-known c =
-    let many : length c.args.terms.now ≡ length c.args.ids.now = search rules in
-    own_known c.args.pool.now c.args.holes c.in_ok-known.known.items c.args.terms.now c.args.ids.now c.in_ok-known.ensures c.requires.formed
-    c.requires.below c.requires.there many
+    own_known c.args.pool.now c.args.holes c.in_ok-known.known.items c.in_ok-known.ensures
 
 pub solve-requires-clause-formed : goal.solve-requires-clause-formed
 solve-requires-clause-formed c =

@@ -3,7 +3,7 @@ use Rattle.std.specs.Prelude.{IfSome, IfNone}
 use Rattle.std.proofs.lemmas.Option.{IfSome_then}
 use Rattle.lists.specs.Lists.{◌∈◌}
 use Rattle.search_values.specs.Tables.{Made}
-use Rattle.search_theory.specs.States.{IsActive}
+use Rattle.journal_theory.specs.States.{IsActive}
 use Rattle.search_rules.specs.Tests.{Maker}
 use Rattle.search_state.specs.contracts.search.Search.{the_view}
 use Rattle.search_state.specs.Searching.{Searching, IsAllTold, ids, made, state_of}

@@ -1,6 +1,6 @@
 use Rattle.std.proofs.Common.{List, ap, sym, subst, refl, ◌∙◌}
 use Rattle.alpha_outside.specs.declared.literal.Lit.{Lit}
-use Rattle.search_theory.specs.Events.{phase_struck, lits_at}
+use Rattle.journal_theory.specs.Events.{phase_struck, lits_at}
 use Rattle.search_values.specs.Values.{all_at_0}
 use Rattle.search_state.specs.contracts.search.Search.{the_view}
 use Rattle.search_state.specs.Searching.{Searching, LitsAreBelow}
@@ -17,12 +17,10 @@ are_at_0-root-requires c =
 pub returns : goal.returns
 returns c =
     let v = c.lits.ensures.value in
-    let phase = view_struck
-    (the_view c.self.inside) c.self.inside.nogoods refl c.self.inside.stage c.stage_struck-self-inside.result refl c.args.nogood v.0
+    let phase = view_struck (the_view c.self.inside) c.self.inside.nogoods refl c.stage_struck-self-inside.result c.args.nogood v.0
     c.are_at_0-root.result v.1
     (c.are_at_0-root.ensures ∙ ap (all_at_0 c.self.inside.trail.stack) v.2) c.stage_struck-self-inside.ensures in
     (λ i. record (the_view c.self.inside) { phase = phase i })
     ∙ ap (λ (s : Searching). let w : Searching = record s {
-      phase = phase_struck s.phase
-          (all_at_0 s.stack (lits_at s.nogoods c.args.nogood));
+      phase = phase_struck c.args.nogood (all_at_0 s.stack (lits_at s.nogoods c.args.nogood));
     } in w) c.self.view_is

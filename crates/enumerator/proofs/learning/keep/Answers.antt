@@ -1,0 +1,13 @@
+use Rattle.std.proofs.lemmas.Result.{on_ok_weaker}
+use Rattle.search_journals.proofs.Stepping.{noted_fault}
+use Rattle.search_journals.proofs.Learning.{carried_keep}
+use Rattle.enumerator.proofs.learning.keep.Goals as goal
+
+pub returns-clause-carries : goal.returns-clause-carries
+returns-clause-carries g c =
+    on_ok_weaker c.noted.result
+    (carried_keep c.args.search.now c.keep.new.self _ _ c.args.nogood c.requires.jumps.0 c.requires.kept c.requires.must c.requires.jumps.1
+    c.keep.ensures) c.noted.ensures.ok
+
+pub returns-clause-err : goal.returns-clause-err
+returns-clause-err g c = noted_fault c.noted.result c.args.search.now _ _ _ _ c.noted.ensures.unchanged c.noted.ensures.cause

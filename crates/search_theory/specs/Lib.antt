@@ -1,6 +1,0 @@
-pub mod States
-pub mod Covers
-pub mod Events
-pub mod Journals
-pub mod Laws
-pub mod Examples
